@@ -1,0 +1,4 @@
+pub mod Tests
+pub mod XorLaws
+pub mod StringLaws
+pub mod Owned

@@ -1,0 +1,5 @@
+pub mod Strings
+pub mod Fips197
+pub mod Rfc7253
+pub mod AesOcb
+pub mod Edges
