@@ -2,4 +2,5 @@ pub mod Tests
 pub mod XorLaws
 pub mod StringLaws
 pub mod NumberLaws
+pub mod Readings
 pub mod Owned

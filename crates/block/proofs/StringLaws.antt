@@ -6,10 +6,12 @@ use Prim.Native.Nat.{ℕ, zero, suc, _+_, _<_}
 use native.Mathlib.Nat.{le-of-suc-le-suc, not-suc-le-zero, suc-inj}
 use native.Mathlib.Omega.{arith}
 use native.Mathlib.Numerals.{add-one}
-use lib.Dec.{lit<}
+use lib.Dec.{T, eqb, eqb→eq, lit<}
 use lib.ListN.{length, getD, set, take, drop, replicate}
 use Rattle.standards.specs.Strings.{_⊕_, _xor_, Bytes, Block}
-use Rattle.block.proofs.XorLaws.{assoc, comm, self, zero-left, zero-right, cancel-right, below}
+use Rattle.standards.specs.Rfc7253.{same}
+use Rattle.block.proofs.Tests.{and-left, and-right}
+use Rattle.block.proofs.XorLaws.{assoc, comm, cancel-right, below}
 
 -- ---- xor
 
@@ -56,6 +58,13 @@ xor-at [] (y ∷ ys) i h k = absurd (not-suc-le-zero h)
 xor-at (x ∷ xs) (y ∷ ys) zero h k = refl
 xor-at (x ∷ xs) (y ∷ ys) (suc i) h k = xor-at xs ys i (le-of-suc-le-suc h) (le-of-suc-le-suc k)
 
+pub xor-append : (a b c d : List ℕ) → length a ≡ length b → (a ++ c) xor (b ++ d) ≡ (a xor b) ++ (c xor d)
+unfolding _xor_
+xor-append [] [] c d e = refl
+xor-append [] (y ∷ b) c d e = absurd (omega arith)
+xor-append (x ∷ a) [] c d e = absurd (omega arith)
+xor-append (x ∷ a) (y ∷ b) c d e = ap (λ (t : List ℕ). (x ⊕ y) ∷ t) (xor-append a b c d (suc-inj e))
+
 -- the store at place i takes the xor with b's first i places to the xor with b's first i + 1
 xor-set : (a b : List ℕ) (i : ℕ) → i < length b
     → set (a xor take i b) i (getD (a xor take i b) i 0 ⊕ getD b i 0) ≡ a xor take (suc i) b
@@ -72,6 +81,16 @@ pub xor-turn : (a b r : List ℕ) (i : ℕ) → i < length b → r ≡ a xor tak
 xor-turn a b r i h e =
     ap (λ (l : List ℕ). set l i (getD l i 0 ⊕ getD b i 0)) e ∙ xor-set a b i h ∙ ap (λ (k : ℕ). a xor take k b) (sym (add-one i))
 
+-- ---- the test of two strings
+
+pub same-true : (a b : List ℕ) → T (same a b) → a ≡ b
+unfolding same
+same-true [] [] t = refl
+same-true [] (y ∷ b) t = absurd t
+same-true (x ∷ a) [] t = absurd t
+same-true (x ∷ a) (y ∷ b) t =
+    ap₂ (λ (h : ℕ) (s : List ℕ). h ∷ s) (eqb→eq x y (and-left (eqb x y) (same a b) t)) (same-true a b (and-right (eqb x y) (same a b) t))
+
 -- ---- strings whose numbers are bytes
 
 pub bytes-none : Bytes []
@@ -86,7 +105,8 @@ bytes-zeros zero i = lit< tt
 bytes-zeros (suc n) zero = lit< tt
 bytes-zeros (suc n) (suc i) = bytes-zeros n i
 
-pub bytes-append : (a b : List ℕ) → Bytes a → Bytes b → Bytes (a ++ b)
+-- over any bound n: at 256 it speaks of `Bytes`, at 2 of bits
+pub bytes-append : {n : ℕ} (a b : List ℕ) → ((i : ℕ) → getD a i 0 < n) → ((i : ℕ) → getD b i 0 < n) → (i : ℕ) → getD (a ++ b) i 0 < n
 bytes-append [] b ha hb i = hb i
 bytes-append (x ∷ a) b ha hb zero = ha 0
 bytes-append (x ∷ a) b ha hb (suc i) = bytes-append a b (λ j. ha (suc j)) hb i
@@ -101,6 +121,13 @@ pub bytes-drop : (n : ℕ) (a : List ℕ) → Bytes a → Bytes (drop n a)
 bytes-drop zero a h i = h i
 bytes-drop (suc n) [] h i = lit< tt
 bytes-drop (suc n) (x ∷ a) h i = bytes-drop n a (λ j. h (suc j)) i
+
+pub bytes-set : (a : List ℕ) (n x : ℕ) → Bytes a → x < 256 → Bytes (set a n x)
+bytes-set [] n x h hx i = h i
+bytes-set (y ∷ a) zero x h hx zero = hx
+bytes-set (y ∷ a) zero x h hx (suc i) = h (suc i)
+bytes-set (y ∷ a) (suc n) x h hx zero = h 0
+bytes-set (y ∷ a) (suc n) x h hx (suc i) = bytes-set a n x (λ j. h (suc j)) hx i
 
 pub bytes-xor : (a b : List ℕ) → Bytes a → Bytes b → Bytes (a xor b)
 unfolding _xor_
