@@ -129,12 +129,10 @@ pub fn load_be64(s: &[u8], at: usize) -> u64
     requires { ⌜ at + 8 ≤ length (now s) ⌝ }
     ensures { λ r. ⌜ r ≡ num (take 8 (drop at (now (s .entry)))) ⌝ }
 {
-    let end = at + 8;
-    let p = &s[at..end];
     let mut n: u64 = 0;
     let mut i = 0;
     while i < 8 {
-        n = n * 256 + p[i] as u64;
+        n = n * 256 + s[at + i] as u64;
         i += 1;
     }
     n

@@ -40,7 +40,7 @@ loop-again c =
     let e : l .i ≡ suc (l .i - 1) = omega arith in
     let T : List ℕ = toBytes 8 (c .before .before .args .n) in
     let h : toBytes (suc (l .i - 1)) (l .x) ++ drop (suc (l .i - 1)) (l .s) ≡ T =
-        subst (λ (k : ℕ). toBytes k (l .x) ++ drop k (l .s) ≡ T) e (l .inv .2) in
+    subst (λ (k : ℕ). toBytes k (l .x) ++ drop k (l .s) ≡ T) e (l .inv .2) in
     (omega arith, simp length-set (l .inv .1), digits-turn 256 (l .s) T (l .i - 1) (l .x) (omega arith) h)
 
 same-length : tie.Need-same-length Inv-loop μ-loop
