@@ -56,12 +56,12 @@ pub fn ntz(i: usize) -> usize
     usize::trailing_zeros(i) as usize
 }
 
-// The block shifted left by one bit: each byte takes the top bit of its right neighbour. For the bit that is lost, 87 (hex) is
-// xored into the last byte.
+// The block shifted left by one bit, each byte taking the top bit of its right neighbour; and 87 (hex) xored into the last byte
+// if the bit that is lost was 1.
 pub fn double(b: [u8; 16]) -> [u8; 16]
     ensures { λ r. ⌜ r ≡ rfc.double b ⌝ }
 {
-    [
+    let mut r = [
         b[0] << 1 | b[1] >> 7,
         b[1] << 1 | b[2] >> 7,
         b[2] << 1 | b[3] >> 7,
@@ -77,8 +77,10 @@ pub fn double(b: [u8; 16]) -> [u8; 16]
         b[12] << 1 | b[13] >> 7,
         b[13] << 1 | b[14] >> 7,
         b[14] << 1 | b[15] >> 7,
-        b[15] << 1 ^ (b[0] >> 7) * 0x87,
-    ]
+        b[15] << 1,
+    ];
+    r[15] = r[15] ^ (b[0] >> 7) * 0x87;
+    r
 }
 
 // ---- Blocks in a slice

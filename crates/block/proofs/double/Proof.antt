@@ -16,7 +16,7 @@ use Rattle.block.proofs.double.Tie as tie
 bytewise : (b : List ℕ) → Block b → doubleBytes (literal 16 (λ i. getD b i 0)) ≡ double b
 bytewise b h = ap doubleBytes (sym (places 16 b (h .size))) ∙ sym (double-is b h)
 
-top-bit-fits : tie.Need-mul-t146
+top-bit-fits : tie.Need-mul-r
 top-bit-fits c = omega (arith, owned-bytes 16 (c .args .t1) _ (c .good .0) 0)
 
 returns : tie.Need-returns
@@ -59,5 +59,7 @@ double-spec =
     (λ c. search needs)
     (λ c. search needs)
     (λ c. search needs)
+    (λ c. search needs)
     top-bit-fits
+    (λ c. search needs)
     returns)
