@@ -129,6 +129,10 @@ module _ (base : ℕ) where
       ∙ sym (number-last (take i S) (getD S i 0))
       ∙ ap (number base) (sym (take-suc S i 0 h) ∙ ap (λ (k : ℕ). take k S) (sym (add-one i)))
 
+  -- one digit more makes a number of one digit more
+  pub number-more : (i x y : ℕ) → x < base ^ i → y < base → x * base + y < base ^ (i + 1)
+  number-more i x y hx hy = subst (λ (z : ℕ). x * base + y < z) (sym (ap (λ (k : ℕ). base ^ k) (add-one i) ∙ pow-suc base i)) (digits-lt hx hy)
+
   -- writing from the last digit on: the i highest digits are still to be written, and they are those of x
   pub digits-turn : (S T : List ℕ) (i x : ℕ) → i < length S → digits base (suc i) x ++ drop (suc i) S ≡ T
       → digits base i (x / base) ++ drop i (set S i (x % base)) ≡ T

@@ -1,1 +1,169 @@
-// Blocks of sixteen bytes and big-endian numbers.
+// Blocks of sixteen bytes and big-endian numbers: what the modes above are made of.
+// Where a function takes a place in a slice, its `requires` says how much of the slice has to lie there.
+ghost use mathlib.Core.Path.{_≡_};
+ghost use mathlib.Core.List.{_++_};
+ghost use Prim.Native.Nat.{_+_, _≤_, _<_};
+ghost use lib.ListN.{length, take, drop};
+ghost use Rattle.standards.specs.Strings.{_xor_, zeros, num, toBytes};
+ghost use Rattle.standards.specs.Rfc7253 as rfc;
+
+// ---- Exclusive or
+
+// a xor b.
+pub fn xor(a: [u8; 16], b: [u8; 16]) -> [u8; 16]
+    ensures { λ r. ⌜ r ≡ a xor b ⌝ }
+{
+    [
+        a[0] ^ b[0],
+        a[1] ^ b[1],
+        a[2] ^ b[2],
+        a[3] ^ b[3],
+        a[4] ^ b[4],
+        a[5] ^ b[5],
+        a[6] ^ b[6],
+        a[7] ^ b[7],
+        a[8] ^ b[8],
+        a[9] ^ b[9],
+        a[10] ^ b[10],
+        a[11] ^ b[11],
+        a[12] ^ b[12],
+        a[13] ^ b[13],
+        a[14] ^ b[14],
+        a[15] ^ b[15],
+    ]
+}
+
+// Xors b's front into a, which may be shorter than a block.
+pub fn inplace_xor(a: &mut [u8], b: [u8; 16])
+    requires { ⌜ length (now a) ≤ 16 ⌝ }
+    ensures { λ r. ⌜ now (a .exit) ≡ now (a .entry) xor b ⌝ }
+{
+    let n = a.len();
+    let mut i = 0;
+    while i < n {
+        a[i] = a[i] ^ b[i];
+        i += 1;
+    }
+}
+
+// ---- RFC 7253's notation
+
+// The count of trailing zero bits of i.
+pub fn ntz(i: usize) -> usize
+    requires { ⌜ 0 < i ⌝ }
+    ensures { λ r. ⌜ r ≡ rfc.ntz i ⌝ }
+{
+    usize::trailing_zeros(i) as usize
+}
+
+// The block shifted left by one bit, each byte taking the top bit of its right neighbour; and 87 (hex) xored into the last byte
+// if the bit that is lost was 1.
+pub fn double(b: [u8; 16]) -> [u8; 16]
+    ensures { λ r. ⌜ r ≡ rfc.double b ⌝ }
+{
+    let mut r = [
+        b[0] << 1 | b[1] >> 7,
+        b[1] << 1 | b[2] >> 7,
+        b[2] << 1 | b[3] >> 7,
+        b[3] << 1 | b[4] >> 7,
+        b[4] << 1 | b[5] >> 7,
+        b[5] << 1 | b[6] >> 7,
+        b[6] << 1 | b[7] >> 7,
+        b[7] << 1 | b[8] >> 7,
+        b[8] << 1 | b[9] >> 7,
+        b[9] << 1 | b[10] >> 7,
+        b[10] << 1 | b[11] >> 7,
+        b[11] << 1 | b[12] >> 7,
+        b[12] << 1 | b[13] >> 7,
+        b[13] << 1 | b[14] >> 7,
+        b[14] << 1 | b[15] >> 7,
+        b[15] << 1,
+    ];
+    r[15] = r[15] ^ (b[0] >> 7) * 0x87;
+    r
+}
+
+// ---- Blocks in a slice
+
+// The sixteen bytes of s from place at on.
+pub fn load(s: &[u8], at: usize) -> [u8; 16]
+    requires { ⌜ at + 16 ≤ length (now s) ⌝ }
+    ensures { λ r. ⌜ r ≡ take 16 (drop at (now (s .entry))) ⌝ }
+{
+    let end = at + 16;
+    let p = &s[at..end];
+    [
+        p[0],
+        p[1],
+        p[2],
+        p[3],
+        p[4],
+        p[5],
+        p[6],
+        p[7],
+        p[8],
+        p[9],
+        p[10],
+        p[11],
+        p[12],
+        p[13],
+        p[14],
+        p[15],
+    ]
+}
+
+// Writes b over the sixteen bytes of s from place at on.
+pub fn store(s: &mut [u8], at: usize, b: [u8; 16])
+    requires { ⌜ at + 16 ≤ length (now s) ⌝ }
+    ensures { λ r. ⌜ now (s .exit) ≡ take at (now (s .entry)) ++ (b ++ drop (at + 16) (now (s .entry))) ⌝ }
+{
+    let mut i = 0;
+    while i < 16 {
+        s[at + i] = b[i];
+        i += 1;
+    }
+}
+
+// ---- Numbers in a slice, the highest byte first
+
+// The number that the eight bytes of s from place at on are.
+pub fn load_be64(s: &[u8], at: usize) -> u64
+    requires { ⌜ at + 8 ≤ length (now s) ⌝ }
+    ensures { λ r. ⌜ r ≡ num (take 8 (drop at (now (s .entry)))) ⌝ }
+{
+    let mut n: u64 = 0;
+    let mut i = 0;
+    while i < 8 {
+        n = n * 256 + s[at + i] as u64;
+        i += 1;
+    }
+    n
+}
+
+// Makes s, which has eight bytes, the bytes of n.
+pub fn store_be64(s: &mut [u8], n: u64)
+    requires { ⌜ length (now s) ≡ 8 ⌝ }
+    ensures { λ r. ⌜ now (s .exit) ≡ toBytes 8 n ⌝ }
+{
+    let mut x = n;
+    let mut i = 8;
+    while 0 < i {
+        i -= 1;
+        s[i] = (x % 256) as u8;
+        x = x / 256;
+    }
+}
+
+// ---- Clearing
+
+// Makes every byte of s zero.
+pub fn clear(s: &mut [u8])
+    ensures { λ r. ⌜ now (s .exit) ≡ zeros (length (now (s .entry))) ⌝ }
+{
+    let n = s.len();
+    let mut i = 0;
+    while i < n {
+        s[i] = 0;
+        i += 1;
+    }
+}
