@@ -3,10 +3,10 @@
 use mathlib.Core.Path.{_≡_, refl, sym, ap, ap₂, _∙_, subst}
 use mathlib.Core.List.{List, [], _∷_, _++_}
 use Prim.Native.Nat.{ℕ, zero, suc, _+_, _*_, _/_, _%_, _^_, _<_}
-use native.Mathlib.Nat.{add-mul, add-assoc, mul-assoc, mul-comm, pow-succ', div-eq-of-lt, mod-eq-of-lt, zero-lt-suc}
+use native.Mathlib.Nat.{add-mul, add-assoc, mul-assoc, mul-comm, pow-succ', div-eq-of-lt, mod-eq-of-lt}
 use native.Mathlib.Omega.{arith}
 use lib.Dec.{lit<}
-use lib.ListN.{length, getD}
+use lib.ListN.{length}
 use lib.Arith.{digits-div, digits-mod}
 use lib.Bits.{bitOr, or-shifted, xor-shr, xor-mod}
 use Rattle.standards.specs.Strings.{_⊕_, Bytes, Block, number, num, digits, toBytes}

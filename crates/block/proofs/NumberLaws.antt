@@ -10,6 +10,7 @@ use lib.Seq.{drop-cons, drop-set-lt, getD-set-same, take-suc}
 use lib.Arith.{digits-lt, digits-div, digits-mod, mod-mul}
 use lib.Pow.{pow-add}
 use Rattle.standards.specs.Strings.{digits, number}
+use Rattle.block.proofs.StringLaws.{bytes-append}
 
 -- each number of the string is a digit; to base 256 this is `Bytes`
 abbrev pub Digits : ℕ → List ℕ → Type 0
@@ -80,13 +81,11 @@ module _ (base : ℕ) where
     pub digits-below : (k n : ℕ) → Digits base (digits base k n)
     unfolding digits
     digits-below zero n i = positive
-    digits-below (suc k) n i = digits-then (digits base k (n / base)) (n % base) (digits-below k (n / base)) (digit-below n) i
+    digits-below (suc k) n i = bytes-append (digits base k (n / base)) (n % base ∷ []) (digits-below k (n / base)) last i
       where
-        digits-then : (S : List ℕ) (x : ℕ) → Digits base S → x < base → Digits base (S ++ (x ∷ []))
-        digits-then [] x h l zero = l
-        digits-then [] x h l (suc i) = positive
-        digits-then (y ∷ S) x h l zero = h 0
-        digits-then (y ∷ S) x h l (suc i) = digits-then S x (λ j. h (suc j)) l i
+        last : Digits base (n % base ∷ [])
+        last zero = digit-below n
+        last (suc i) = positive
 
     -- only the low digits count
     pub digits-low : (k n : ℕ) → digits base k (n % base ^ k) ≡ digits base k n
