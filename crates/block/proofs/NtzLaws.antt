@@ -1,8 +1,8 @@
 -- Trailing zeros: a number's count does not depend on how many of its places above are looked at, and is below the number's length in bits.
 -- By induction on the places, with the number halved. Assumes nothing.
-use mathlib.Core.Path.{_≡_, refl, sym, ap, _∙_, subst}
-use Prim.Native.Nat.{ℕ, zero, suc, _+_, _*_, _/_, _%_, _^_, _<_, suc-le-suc}
-use native.Mathlib.Nat.{pow-suc, not-suc-le-zero, zero-lt-suc}
+use mathlib.Core.Path.{_≡_, refl, sym, ap, subst}
+use Prim.Native.Nat.{ℕ, zero, suc, _*_, _/_, _%_, _^_, _<_, suc-le-suc}
+use native.Mathlib.Nat.{pow-suc, zero-lt-suc}
 use native.Mathlib.Omega.{arith}
 use lib.Count.{trailingZeros, under}
 use Rattle.standards.specs.Rfc7253.{ntz}

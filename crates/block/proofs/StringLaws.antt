@@ -9,7 +9,8 @@ use native.Mathlib.Numerals.{add-one}
 use lib.Dec.{lit<}
 use lib.ListN.{length, getD, set, take, drop, replicate}
 use Rattle.standards.specs.Strings.{_⊕_, _xor_, Bytes, Block}
-use Rattle.block.proofs.XorLaws.{assoc, comm, self, zero-left, zero-right, cancel-right, below}
+use Rattle.block.proofs.NumberLaws.{below-append}
+use Rattle.block.proofs.XorLaws.{assoc, comm, cancel-right, below}
 
 -- ---- xor
 
@@ -87,9 +88,7 @@ bytes-zeros (suc n) zero = lit< tt
 bytes-zeros (suc n) (suc i) = bytes-zeros n i
 
 pub bytes-append : (a b : List ℕ) → Bytes a → Bytes b → Bytes (a ++ b)
-bytes-append [] b ha hb i = hb i
-bytes-append (x ∷ a) b ha hb zero = ha 0
-bytes-append (x ∷ a) b ha hb (suc i) = bytes-append a b (λ j. ha (suc j)) hb i
+bytes-append = below-append 256
 
 pub bytes-take : (n : ℕ) (a : List ℕ) → Bytes a → Bytes (take n a)
 bytes-take zero a h i = lit< tt
