@@ -3,7 +3,7 @@
 use mathlib.Core.Path.{_≡_, refl, sym, ap, ap₂, _∙_, subst}
 use mathlib.Core.List.{List, [], _∷_, _++_}
 use Prim.Native.Nat.{ℕ, zero, suc, _+_, _*_, _/_, _%_, _^_, _<_}
-use native.Mathlib.Nat.{add-mul, add-assoc, mul-assoc, mul-comm, pow-succ', div-eq-of-lt, mod-eq-of-lt}
+use native.Mathlib.Nat.{add-mul, mul-assoc, mul-right-comm, pow-succ', div-eq-of-lt, mod-eq-of-lt}
 use native.Mathlib.Omega.{arith}
 use lib.Dec.{lit<}
 use lib.ListN.{length}
@@ -54,11 +54,9 @@ shift-bytes (x ∷ S) h (suc i) = shift-bytes S (λ j. h (suc j)) i
 carry : (x n t m L : ℕ) → n * 2 ≡ t * L + m → (x * L + n) * 2 ≡ x / 128 * (256 * L) + ((x * 2 % 256 + t) * L + m)
 carry x n t m L e =
     let d : x * 2 ≡ x / 128 * 256 + x * 2 % 256 = omega arith in
-    add-mul (x * L) n 2
-    ∙ ap₂ (λ (y z : ℕ). y + z) (mul-assoc x L 2 ∙ ap (λ (y : ℕ). x * y) (mul-comm L 2) ∙ sym (mul-assoc x 2 L) ∙ ap (λ (y : ℕ). y * L) d ∙ add-mul (x / 128 * 256) (x * 2 % 256) L) e
-    ∙ ap (λ (y : ℕ). y + x * 2 % 256 * L + (t * L + m)) (mul-assoc (x / 128) 256 L)
-    ∙ add-assoc (x / 128 * (256 * L)) (x * 2 % 256 * L) (t * L + m)
-    ∙ ap (λ (y : ℕ). x / 128 * (256 * L) + y) (sym (add-assoc (x * 2 % 256 * L) (t * L) m) ∙ ap (λ (y : ℕ). y + m) (sym (add-mul (x * 2 % 256) t L)))
+    let high : x * L * 2 ≡ x / 128 * 256 * L + x * 2 % 256 * L =
+    mul-right-comm x L 2 ∙ ap (λ (y : ℕ). y * L) d ∙ add-mul (x / 128 * 256) (x * 2 % 256) L in
+    omega (arith, mul-assoc (x / 128) 256 L, add-mul (x * 2 % 256) t L)
 
 twice : (S : List ℕ) → Bytes S → num S * 2 ≡ top S * 256 ^ length S + num (shift S)
 unfolding number

@@ -1,7 +1,7 @@
 pub mod Tests
 pub mod XorLaws
-pub mod StringLaws
 pub mod NumberLaws
+pub mod StringLaws
 pub mod NtzLaws
 pub mod DoubleLaws
 pub mod Readings

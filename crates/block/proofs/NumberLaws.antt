@@ -3,31 +3,36 @@
 use mathlib.Core.Path.{_≡_, refl, sym, ap, ap₂, _∙_, subst}
 use mathlib.Core.List.{List, [], _∷_, _++_, append-assoc, append-nil}
 use Prim.Native.Nat.{ℕ, zero, suc, _+_, _*_, _/_, _%_, _^_, _<_}
-use native.Mathlib.Nat.{add-assoc, add-mul, add-suc, add-zero, zero-add, zero-mul, mul-assoc, mul-one, one-mul, pow-zero, pow-suc, pow-succ', mod-lt, mod-one, mod-eq-of-lt, div-div-eq-div-mul, div-one, one-le-pow, le-refl, le-of-eq}
+use native.Mathlib.Nat.{add-mul, add-suc, add-zero, zero-add, zero-mul, mul-assoc, mul-one, one-mul, pow-zero, pow-suc, pow-succ', mod-lt, mod-one, mod-eq-of-lt, div-div-eq-div-mul, div-one, one-le-pow, le-refl, le-of-eq}
+use native.Mathlib.Omega.{arith}
 use native.Mathlib.Numerals.{add-one, one-add}
 use lib.ListN.{length, getD, take, drop, set, length-append, length-set}
 use lib.Seq.{drop-cons, drop-set-lt, getD-set-same, take-suc}
 use lib.Arith.{digits-lt, digits-div, digits-mod, mod-mul}
 use lib.Pow.{pow-add}
 use Rattle.standards.specs.Strings.{digits, number}
-use Rattle.block.proofs.StringLaws.{bytes-append}
 
 -- each number of the string is a digit; to base 256 this is `Bytes`
 abbrev pub Digits : ℕ → List ℕ → Type 0
 Digits base S = (i : ℕ) → getD S i 0 < base
 
 module _ (base : ℕ) where
+  pub below-append : (S T : List ℕ) → Digits base S → Digits base T → Digits base (S ++ T)
+  below-append [] T hS hT i = hT i
+  below-append (x ∷ S) T hS hT zero = hS 0
+  below-append (x ∷ S) T hS hT (suc i) = below-append S T (λ j. hS (suc j)) hT i
+
   -- ---- the number of a string
 
   pub number-append : (S T : List ℕ) → number base (S ++ T) ≡ number base S * base ^ length T + number base T
   unfolding number
   number-append [] T = sym (zero-add (number base T)) ∙ ap (λ (x : ℕ). x + number base T) (sym (zero-mul (base ^ length T)))
   number-append (x ∷ S) T =
-      ap₂ (λ (p q : ℕ). x * base ^ p + q) (length-append S T) (number-append S T)
-      ∙ ap (λ (p : ℕ). x * p + (number base S * base ^ length T + number base T)) (pow-add base (length S) (length T))
-      ∙ ap (λ (p : ℕ). p + (number base S * base ^ length T + number base T)) (sym (mul-assoc x (base ^ length S) (base ^ length T)))
-      ∙ sym (add-assoc (x * base ^ length S * base ^ length T) (number base S * base ^ length T) (number base T))
-      ∙ ap (λ (p : ℕ). p + number base T) (sym (add-mul (x * base ^ length S) (number base S) (base ^ length T)))
+      let high : x * base ^ length (S ++ T) ≡ x * base ^ length S * base ^ length T =
+      ap (λ (k : ℕ). x * base ^ k) (length-append S T)
+      ∙ ap (λ (p : ℕ). x * p) (pow-add base (length S) (length T))
+      ∙ sym (mul-assoc x (base ^ length S) (base ^ length T)) in
+      omega (arith, number-append S T, add-mul (x * base ^ length S) (number base S) (base ^ length T))
 
   pub number-one : (x : ℕ) → number base (x ∷ []) ≡ x
   unfolding number
@@ -81,11 +86,11 @@ module _ (base : ℕ) where
     pub digits-below : (k n : ℕ) → Digits base (digits base k n)
     unfolding digits
     digits-below zero n i = positive
-    digits-below (suc k) n i = bytes-append (digits base k (n / base)) (n % base ∷ []) (digits-below k (n / base)) last i
+    digits-below (suc k) n i = below-append (digits base k (n / base)) (n % base ∷ []) (digits-below k (n / base)) last i
       where
         last : Digits base (n % base ∷ [])
         last zero = digit-below n
-        last (suc i) = positive
+        last (suc j) = positive
 
     -- only the low digits count
     pub digits-low : (k n : ℕ) → digits base k (n % base ^ k) ≡ digits base k n

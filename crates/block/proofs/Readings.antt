@@ -13,8 +13,8 @@ use lib.Pow.{pow-add, shr-lt}
 use lib.Seq.{take-all, take-at, drop-at, take-nil, drop-nil, take-suc, set-split, length-take-le, take-append-add, drop-append-add}
 use Rattle.standards.specs.Strings.{_⊕_, _xor_, zeros, digits, number, num2str, str2num, toBytes, num, bits, bytes, part, Bytes, Block}
 use Rattle.standards.specs.Rfc7253.{Key, Nonce, bottom, top, Stretch, cut, Offset-0, nonceFront, nonceBlock, bottomOf, topOf, stretchOf, cutOf, initialOffset, same}
-use Rattle.block.proofs.NumberLaws.{Digits, number-append, number-last, number-below, digits-length, digits-append, digits-below, number-digits, digits-number}
-use Rattle.block.proofs.StringLaws.{same-true, xor-append, xor-length, bytes-append, bytes-cons, bytes-set, bytes-take, bytes-drop, bytes-xor, bytes-zeros}
+use Rattle.block.proofs.NumberLaws.{Digits, below-append, number-append, number-last, number-below, digits-length, digits-append, digits-below, number-digits, digits-number}
+use Rattle.block.proofs.StringLaws.{same-equal, xor-append, xor-length, bytes-append, bytes-cons, bytes-set, bytes-take, bytes-drop, bytes-xor, bytes-zeros}
 use Rattle.block.proofs.Tests.{each, below}
 
 two-positive : 0 < 2
@@ -94,7 +94,7 @@ bits-number (x ∷ S) h =
 bits-digits : (S : List ℕ) → Digits 2 (bits S)
 unfolding bits
 bits-digits [] = λ i. two-positive
-bits-digits (x ∷ S) = bytes-append (num2str x 8) (bits S) (digits-below 2 two-positive 8 x) (bits-digits S)
+bits-digits (x ∷ S) = below-append 2 (num2str x 8) (bits S) (digits-below 2 two-positive 8 x) (bits-digits S)
 
 -- the bits of a string are the digits of its number
 as-digits : (S : List ℕ) → Bytes S → bits S ≡ digits 2 (8 * length S) (num S)
@@ -226,7 +226,7 @@ unfolding front-test
 front-same t n ht kt hn kn =
     let et : 1 + (t - 1) ≡ t = omega arith in
     let en : 6 + (n - 6) ≡ n = omega arith in
-    same-true (bits (nonceFront t n)) (front-in-bits t n)
+    same-equal (bits (nonceFront t n)) (front-in-bits t n)
     (subst₂ (λ (i j : ℕ). T (front-test i j)) et en
     (below (λ j. front-test (1 + (t - 1)) (6 + j)) 10 (below (λ i. each (λ j. front-test (1 + i) (6 + j)) 10) 16 fronts (t - 1) (omega arith)) (n - 6) (omega arith)))
 

@@ -1,16 +1,19 @@
 -- Strings of bytes under xor, and which operations keep a string's numbers bytes.
 -- Assumes nothing.
 use mathlib.Core.Path.{_≡_, refl, sym, ap, ap₂, _∙_}
+use mathlib.Core.Bool.{Bool, true, _&&_}
 use mathlib.Core.List.{List, [], _∷_, _++_}
 use Prim.Native.Nat.{ℕ, zero, suc, _+_, _<_}
 use native.Mathlib.Nat.{le-of-suc-le-suc, not-suc-le-zero, suc-inj}
 use native.Mathlib.Omega.{arith}
 use native.Mathlib.Numerals.{add-one}
+use borrow.Author.Tests.{eq-eqb}
 use lib.Dec.{T, eqb, eqb→eq, lit<}
 use lib.ListN.{length, getD, set, take, drop, replicate}
 use Rattle.standards.specs.Strings.{_⊕_, _xor_, Bytes, Block}
 use Rattle.standards.specs.Rfc7253.{same}
 use Rattle.block.proofs.Tests.{and-left, and-right}
+use Rattle.block.proofs.NumberLaws.{below-append}
 use Rattle.block.proofs.XorLaws.{assoc, comm, cancel-right, below}
 
 -- ---- xor
@@ -83,13 +86,18 @@ xor-turn a b r i h e =
 
 -- ---- the test of two strings
 
-pub same-true : (a b : List ℕ) → T (same a b) → a ≡ b
+pub same-self : (a : List ℕ) → same a a ≡ true
 unfolding same
-same-true [] [] t = refl
-same-true [] (y ∷ b) t = absurd t
-same-true (x ∷ a) [] t = absurd t
-same-true (x ∷ a) (y ∷ b) t =
-    ap₂ (λ (h : ℕ) (s : List ℕ). h ∷ s) (eqb→eq x y (and-left (eqb x y) (same a b) t)) (same-true a b (and-right (eqb x y) (same a b) t))
+same-self [] = refl
+same-self (x ∷ a) = ap₂ (λ (p q : Bool). p && q) (eq-eqb x x refl) (same-self a)
+
+pub same-equal : (a b : List ℕ) → T (same a b) → a ≡ b
+unfolding same
+same-equal [] [] t = refl
+same-equal [] (y ∷ b) t = absurd t
+same-equal (x ∷ a) [] t = absurd t
+same-equal (x ∷ a) (y ∷ b) t =
+    ap₂ (λ (h : ℕ) (s : List ℕ). h ∷ s) (eqb→eq x y (and-left (eqb x y) (same a b) t)) (same-equal a b (and-right (eqb x y) (same a b) t))
 
 -- ---- strings whose numbers are bytes
 
@@ -105,11 +113,8 @@ bytes-zeros zero i = lit< tt
 bytes-zeros (suc n) zero = lit< tt
 bytes-zeros (suc n) (suc i) = bytes-zeros n i
 
--- over any bound n: at 256 it speaks of `Bytes`, at 2 of bits
-pub bytes-append : {n : ℕ} (a b : List ℕ) → ((i : ℕ) → getD a i 0 < n) → ((i : ℕ) → getD b i 0 < n) → (i : ℕ) → getD (a ++ b) i 0 < n
-bytes-append [] b ha hb i = hb i
-bytes-append (x ∷ a) b ha hb zero = ha 0
-bytes-append (x ∷ a) b ha hb (suc i) = bytes-append a b (λ j. ha (suc j)) hb i
+pub bytes-append : (a b : List ℕ) → Bytes a → Bytes b → Bytes (a ++ b)
+bytes-append = below-append 256
 
 pub bytes-take : (n : ℕ) (a : List ℕ) → Bytes a → Bytes (take n a)
 bytes-take zero a h i = lit< tt
