@@ -1,0 +1,78 @@
+-- The key schedule: what the code's branches, stores and turns do.
+-- Assumes nothing.
+use mathlib.Core.Path.{_≡_, refl, sym, ap, ap₂, _∙_, subst}
+use mathlib.Core.List.{List, [], _∷_, _++_}
+use mathlib.Core.Bool.{Bool, true, false}
+use Prim.Native.Nat.{ℕ, zero, suc, _+_, _-_, _*_, _/_, _%_, _<_, _≤_}
+use native.Mathlib.Nat.{le-div-iff-mul-le, div-lt-iff-lt-mul, le-of-suc-le-suc}
+use native.Mathlib.Numerals.{add-one, add-two, add-three}
+use native.Mathlib.Omega.{arith}
+use lib.Dec.{eqb, ltb}
+use lib.ListN.{length, getD, take, drop, set, length-take, length-append}
+use lib.Seq.{sets, sets-eq, take-at, getD-take, take-suc, take-suc-set, take-all, length-take-le}
+use borrow.Author.Tests.{eq-eqb, ne-eqb, lt-ltb, le-ltb}
+use Rattle.standards.specs.Fips197.{word, addColumn}
+use Rattle.standards.specs.Fips197.{rotWord, subWord, rconWord, choose, temp, nextWord, schedule}
+
+-- ---- a word that the code computes
+next-by : (nk : ℕ) (w : List ℕ) (i : ℕ) (p t u r : List ℕ) → p ≡ word w (i - nk) → t ≡ word w (i - 1) → u ≡ temp nk i t → r ≡ addColumn p u → r ≡ nextWord nk w i
+unfolding nextWord
+next-by nk w i p t u r hp ht hu hr = hr ∙ ap₂ addColumn hp (hu ∙ ap (temp nk i) ht)
+
+pub next-turned : (nk : ℕ) (w : List ℕ) (i : ℕ) (p t u r : List ℕ) → i % nk ≡ 0 → p ≡ word w (i - nk) → t ≡ word w (i - 1)
+    → u ≡ addColumn (subWord (rotWord t)) (rconWord (i / nk)) → r ≡ addColumn p u → r ≡ nextWord nk w i
+next-turned nk w i p t u r h hp ht hu = next-by nk w i p t u r hp ht (rw (eq-eqb _ _ h) hu)
+
+pub next-half : (nk : ℕ) (w : List ℕ) (i : ℕ) (p t u r : List ℕ) → (i % nk ≡ 0 → ⊥) → 6 < nk → i % nk ≡ 4 → p ≡ word w (i - nk) → t ≡ word w (i - 1)
+    → u ≡ subWord t → r ≡ addColumn p u → r ≡ nextWord nk w i
+next-half nk w i p t u r h k m hp ht hu = next-by nk w i p t u r hp ht (rw (ne-eqb _ _ h, lt-ltb _ _ k, eq-eqb _ _ m) hu)
+
+pub next-plain : (nk : ℕ) (w : List ℕ) (i : ℕ) (p t r : List ℕ) → (i % nk ≡ 0 → ⊥) → nk ≤ 6 → p ≡ word w (i - nk) → t ≡ word w (i - 1)
+    → r ≡ addColumn p t → r ≡ nextWord nk w i
+next-plain nk w i p t r h k hp ht = next-by nk w i p t t r hp ht (rw (ne-eqb _ _ h, le-ltb _ _ k))
+
+pub next-other : (nk : ℕ) (w : List ℕ) (i : ℕ) (p t r : List ℕ) → (i % nk ≡ 0 → ⊥) → 6 < nk → (i % nk ≡ 4 → ⊥) → p ≡ word w (i - nk) → t ≡ word w (i - 1)
+    → r ≡ addColumn p t → r ≡ nextWord nk w i
+next-other nk w i p t r h k m hp ht = next-by nk w i p t t r hp ht (rw (ne-eqb _ _ h, lt-ltb _ _ k, ne-eqb _ _ m))
+
+pub quotient : (i nk : ℕ) → 1 ≤ nk → nk ≤ i → i < 11 * nk → (1 ≤ i / nk) × (i / nk ≤ 10)
+quotient i nk h k l = (le-div-iff-mul-le h .1 (omega arith), le-of-suc-le-suc (div-lt-iff-lt-mul h .1 l))
+
+-- ---- four stores
+pub stored : (l : List ℕ) (k a b c d : ℕ) → k + 3 < length l
+    → take (k + 4) (set (set (set (set l k a) (k + 1) b) (k + 2) c) (k + 3) d) ≡ take k l ++ (a ∷ b ∷ c ∷ d ∷ [])
+stored l k a b c d h =
+    rw (add-one k, add-two k, add-three k)
+    (ap (take (k + 4)) (sets-eq (a ∷ b ∷ c ∷ d ∷ []) l k (omega arith))
+    ∙ take-at (take k l ++ (a ∷ b ∷ c ∷ d ∷ [])) (drop (k + 4) l) (k + 4)
+    (length-append (take k l) (a ∷ b ∷ c ∷ d ∷ []) ∙ ap (λ (x : ℕ). x + 4) (length-take-le k l (omega arith))))
+
+-- ---- a turn
+word-take : (w : List ℕ) (n j : ℕ) → 4 * j + 3 < n → word (take n w) j ≡ word w j
+word-take w n j h = λ x.
+    getD-take n w (4 * j) 0 (omega arith) x ∷ getD-take n w (4 * j + 1) 0 (omega arith) x
+    ∷ getD-take n w (4 * j + 2) 0 (omega arith) x ∷ getD-take n w (4 * j + 3) 0 (omega arith) x ∷ []
+
+next-take : (nk : ℕ) (w : List ℕ) (i : ℕ) → 1 ≤ nk → nk ≤ i → nextWord nk (take (4 * i) w) i ≡ nextWord nk w i
+unfolding nextWord
+next-take nk w i h k =
+    ap₂ (λ (x y : List ℕ). addColumn x (temp nk i y)) (word-take w (4 * i) (i - nk) (omega arith)) (word-take w (4 * i) (i - 1) (omega arith))
+
+grown : (nk : ℕ) (key : List ℕ) (m : ℕ) → schedule nk key m ++ nextWord nk (schedule nk key m) (nk + m) ≡ schedule nk key (suc m)
+unfolding schedule
+grown nk key m = refl
+
+pub key-turn : (nk : ℕ) (key : List ℕ) (i : ℕ) (w w' v : List ℕ) → 1 ≤ nk → nk ≤ i → take (4 * i) w ≡ schedule nk key (i - nk) → v ≡ nextWord nk w i
+    → take (4 * (i + 1)) w' ≡ take (4 * i) w ++ v → take (4 * (i + 1)) w' ≡ schedule nk key (i + 1 - nk)
+key-turn nk key i w w' v h k e q p =
+    let n : i ≡ nk + (i - nk) = omega arith in
+    let s : suc (i - nk) ≡ i + 1 - nk = omega arith in
+    p ∙ ap₂ _++_ e (q ∙ sym (next-take nk w i h k) ∙ ap₂ (nextWord nk) e n) ∙ grown nk key (i - nk) ∙ ap (schedule nk key) s
+
+-- ---- the key is copied
+pub copy-turn : (key w : List ℕ) (k : ℕ) → k < length key → k < length w → take k w ≡ take k key → take (k + 1) (set w k (getD key k 0)) ≡ take (k + 1) key
+copy-turn key w k h l e = rw (add-one k) (take-suc-set w k (getD key k 0) l ∙ ap (λ (x : List ℕ). x ++ (getD key k 0 ∷ [])) e ∙ sym (take-suc key k 0 h))
+
+pub key-first : (nk : ℕ) (key : List ℕ) → key ≡ schedule nk key (nk - nk)
+unfolding schedule
+key-first nk key = let z : nk - nk ≡ 0 = omega arith in rw z

@@ -1,0 +1,9 @@
+pub mod MixLaws
+pub mod StateLaws
+pub mod OwnedState
+pub mod LookUpLaws
+pub mod CipherLaws
+pub mod Turns
+pub mod KeyLaws
+pub mod Promise
+pub mod Expansion

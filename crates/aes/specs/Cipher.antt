@@ -1,0 +1,13 @@
+-- The block cipher as the crates above know it: nr rounds under the round keys' bytes w, on the block b. Both definitions are shut.
+-- What may be used of them is proofs/Promise.antt.
+use mathlib.Core.List.{List}
+use Prim.Native.Nat.{ℕ}
+use Rattle.standards.specs.Fips197.{encipher, decipher}
+-- the equations, for this crate's proofs and for the one place that says that the cipher is FIPS 197's
+pub mod Body
+
+pub enc : ℕ → List ℕ → List ℕ → List ℕ
+enc nr w b = encipher nr w b
+
+pub dec : ℕ → List ℕ → List ℕ → List ℕ
+dec nr w b = decipher nr w b

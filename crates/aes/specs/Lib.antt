@@ -1,0 +1,2 @@
+pub mod Cipher
+pub mod Steps

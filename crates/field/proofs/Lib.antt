@@ -1,0 +1,4 @@
+pub mod FieldLaws
+pub mod InverseLaws
+pub mod BoxLaws
+pub mod TableLaws
