@@ -1,0 +1,6 @@
+pub mod Cipher
+pub mod Sizes
+pub mod Undo
+pub mod RoundTrip
+pub mod Calls
+pub mod Agree

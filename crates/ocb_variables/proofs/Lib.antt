@@ -1,0 +1,5 @@
+pub mod BlockLaws
+pub mod TableLaws
+pub mod KeyLaws
+pub mod OffsetLaws
+pub mod NonceLaws

@@ -1,0 +1,157 @@
+// What depends on the key and what depends on the nonce (RFC 7253, sections 4.1 and 4.2): the L values, the nonce block, Stretch and
+// the first offset. The S-box and the round keys are lent down, not copied. t is a tag's length in bytes.
+ghost use mathlib.Core.Path.{_≡_};
+ghost use mathlib.Core.List.{List};
+ghost use Prim.Native.Nat.{ℕ, _≤_, _<_};
+ghost use lib.ListN.{length};
+ghost use Rattle.standards.specs.Rfc7253.{nonceBlock, stretchOf, cutOf, initialOffset};
+ghost use Rattle.field.specs.Tables.{sboxTable};
+ghost use Rattle.ocb_variables.specs.State.{tableOf, stateOf};
+ghost use Rattle.ocb_variables.specs.Held.{stateKey};
+ghost use Rattle.ocb_variables.specs.Nonce.{Admitted, variablesOf, bitsFrom};
+
+// ---- Key-dependent variables
+
+// What a key is made into. The table has places for L_0 to L_25, of which the first m are filled and the others zero.
+pub struct State {
+    pub round_keys: [u8; 176],
+    pub star: [u8; 16],
+    pub dollar: [u8; 16],
+    pub m: usize,
+    pub table: [u8; 416],
+}
+
+// The table of L_0 to L_(m-1): each L is the double of the one before, and L_0 that of L_$.
+fn l_table(dollar: [u8; 16], m: usize) -> [u8; 416]
+    requires { ⌜ m ≤ 26 ⌝ }
+    ensures { λ r. ⌜ r ≡ tableOf dollar m ⌝ }
+{
+    let mut table = [0u8; 416];
+    let mut l = dollar;
+    let mut i = 0;
+    while i < m {
+        let next = block::double(l);
+        block::store(&mut table, i * 16, next);
+        l = next;
+        i += 1;
+    }
+    table
+}
+
+// The state of these round keys. L_* is the zero block enciphered, L_$ its double.
+pub fn key_dependent_variables(sbox: &[u8; 256], rk: [u8; 176], m: usize) -> State
+    requires { ⌜ (now sbox ≡ sboxTable) × (m ≤ 26) ⌝ }
+    ensures { λ r. ⌜ r ≡ stateOf rk m ⌝ }
+{
+    let zero = [0u8; 16];
+    let star = aes::encipher_with(sbox, &rk, zero);
+    let dollar = block::double(star);
+    let table = l_table(dollar, m);
+    State {
+        round_keys: rk,
+        star: star,
+        dollar: dollar,
+        m: m,
+        table: table,
+    }
+}
+
+// ---- Nonce-dependent variables
+
+// Seven bits of the tag's length in bits mod 128, zeros, one 1 bit, and the nonce.
+fn nonce_block(nonce: &[u8], t: usize) -> [u8; 16]
+    requires { ⌜ Admitted (length (now nonce)) t ⌝ }
+    ensures { λ r. ⌜ r ≡ nonceBlock t (now (nonce .entry)) ⌝ }
+{
+    let len = nonce.len();
+    let start = 16 - len;
+    let mut out = [0u8; 16];
+    out[0] = (8 * t % 128 * 2) as u8;
+    let mut i = 0;
+    while i < len {
+        out[start + i] = nonce[i];
+        i += 1;
+    }
+    let mark = 15 - len;
+    out[mark] = out[mark] | 1;
+    out
+}
+
+// Ktop, then each of its bytes 0 to 7 xored with its right neighbour, as both stand in Ktop.
+fn stretch_of(ktop: [u8; 16]) -> [u8; 24]
+    ensures { λ r. ⌜ r ≡ stretchOf ktop ⌝ }
+{
+    let mut stretch = [0u8; 24];
+    block::store(&mut stretch, 0, ktop);
+    let mut j = 0;
+    while j < 8 {
+        stretch[16 + j] = ktop[j] ^ ktop[j + 1];
+        j += 1;
+    }
+    stretch
+}
+
+pub struct NonceVariables {
+    pub bottom: usize,
+    pub stretch: [u8; 24],
+}
+
+// Bottom is the low six bits of the nonce block; Ktop is the block with those bits cleared, enciphered.
+pub fn nonce_dependent_variables(
+    sbox: &[u8; 256],
+    rk: &[u8; 176],
+    nonce: &[u8],
+    t: usize,
+) -> NonceVariables
+    requires { ⌜ (now sbox ≡ sboxTable) × Admitted (length (now nonce)) t ⌝ }
+    ensures { λ r. ⌜ r ≡ variablesOf (now (rk .entry)) t (now (nonce .entry)) ⌝ }
+{
+    let mut top = nonce_block(nonce, t);
+    let last = top[15];
+    let bottom = (last & 63) as usize;
+    top[15] = last & 192;
+    let ktop = aes::encipher_with(sbox, rk, top);
+    let stretch = stretch_of(ktop);
+    NonceVariables {
+        bottom: bottom,
+        stretch: stretch,
+    }
+}
+
+// ---- The first offset
+
+// The 64 bits behind the first `bottom` of hi and lo. Bottom 0 stands apart: it would ask for a shift by 64, which a word does not have.
+fn bits_from(hi: u64, lo: u64, bottom: usize) -> u64
+    requires { ⌜ bottom < 64 ⌝ }
+    ensures { λ r. ⌜ r ≡ bitsFrom hi lo bottom ⌝ }
+{
+    if bottom == 0 {
+        return hi;
+    }
+    (hi << bottom) | (lo >> (64 - bottom))
+}
+
+// The 128 bits behind the first `bottom` of Stretch.
+fn cut(stretch: [u8; 24], bottom: usize) -> [u8; 16]
+    requires { ⌜ bottom < 64 ⌝ }
+    ensures { λ r. ⌜ r ≡ cutOf stretch bottom ⌝ }
+{
+    let a = block::load_be64(&stretch, 0);
+    let b = block::load_be64(&stretch, 8);
+    let c = block::load_be64(&stretch, 16);
+    let mut offset = [0u8; 16];
+    block::store_be64(&mut offset[0..8], bits_from(a, b, bottom));
+    block::store_be64(&mut offset[8..16], bits_from(b, c, bottom));
+    offset
+}
+
+// Offset_0 under whatever key the round keys are a part of: neither L values nor a table come into it.
+pub fn initial_offset(sbox: &[u8; 256], rk: &[u8; 176], nonce: &[u8], t: usize) -> [u8; 16]
+    requires { ⌜ (now sbox ≡ sboxTable) × Admitted (length (now nonce)) t ⌝ }
+    ensures { λ r. ⌜ ((star dollar table : List ℕ) → r ≡ initialOffset (stateKey (now (rk .entry)) star dollar table) t (now (nonce .entry))) ⌝ }
+{
+    let v = nonce_dependent_variables(sbox, rk, nonce, t);
+    let bottom = v.bottom;
+    let stretch = v.stretch;
+    cut(stretch, bottom)
+}
