@@ -12,7 +12,7 @@ use Rattle.standards.specs.Fips197.{rcon, rconWord, rotWord, subWord, choose, t
 use Rattle.block.proofs.StringLaws.{bytes-append}
 use Rattle.field.proofs.FieldLaws.{xtime-below}
 use Rattle.field.proofs.BoxLaws.{sbox-below}
-use Rattle.aes.proofs.StateLaws.{at-four, column-bytes, add-bytes, word-bytes}
+use Rattle.aes_steps.proofs.StateLaws.{at-four, column-bytes, add-bytes, word-bytes}
 
 rcon-below : (i : ℕ) → rcon i < 256
 unfolding rcon

@@ -11,7 +11,7 @@ use Rattle.standards.specs.Fips197.{State, at, fromBlock, toBlock, cipher, invC
 use Rattle.field.specs.Tables.{tabulate}
 use Rattle.aes.specs.Cipher.{enc, dec}
 use Rattle.aes.specs.Cipher.Body.{enc-is, dec-is}
-use Rattle.aes.proofs.StateLaws.{IsState, of-state}
+use Rattle.aes_steps.proofs.StateLaws.{IsState, of-state}
 use Rattle.aes.proofs.CipherLaws.{cipher-state, inv-cipher-state, inv-cipher-cipher, cipher-inv-cipher}
 
 -- ---- blocks and states

@@ -1,14 +1,14 @@
--- `aes::inv_steps::inv_sub_bytes` meets its contract: the lent table's entries are the inverse S-box's values.
+-- `aes_steps::inverse::inv_sub_bytes` meets its contract: the lent table's entries are the inverse S-box's values.
 -- Assumes nothing.
 use mathlib.Core.Path.{ap, _∙_}
 use lib.ListN.{length}
 use Rattle.standards.specs.Fips197.{invSbox}
 use Rattle.field.proofs.TableLaws.{inv-sbox-length}
-use Rattle.aes.proofs.LookUpLaws.{inv-sbox-at}
-use Rattle.aes.proofs.StateLaws.{each-state-same}
-use Rattle.aes.proofs.OwnedState.{owned-state}
-use Rattle.aes.proofs.inv_steps.inv_sub_bytes.Statement.{statement}
-use Rattle.aes.proofs.inv_steps.inv_sub_bytes.Tie as tie
+use Rattle.aes_steps.proofs.LookUpLaws.{inv-sbox-at}
+use Rattle.aes_steps.proofs.StateLaws.{each-state-same}
+use Rattle.aes_steps.proofs.OwnedState.{owned-state}
+use Rattle.aes_steps.proofs.inverse.inv_sub_bytes.Statement.{statement}
+use Rattle.aes_steps.proofs.inverse.inv_sub_bytes.Tie as tie
 
 substitute-all-requires : tie.Need-substitute-all-requires
 substitute-all-requires c κs = ap length (c .pre) ∙ inv-sbox-length

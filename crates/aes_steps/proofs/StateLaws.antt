@@ -11,7 +11,7 @@ use Rattle.block.proofs.XorLaws.{cancel-right, below}
 use Rattle.block.proofs.StringLaws.{bytes-none}
 use Rattle.field.proofs.FieldLaws.{product-below}
 use Rattle.field.proofs.BoxLaws.{inv-sbox-sbox, sbox-inv-sbox, sbox-below, inv-sbox-below}
-use Rattle.aes.proofs.MixLaws.{inv-mix-mix, mix-inv-mix}
+use Rattle.aes_steps.proofs.MixLaws.{inv-mix-mix, mix-inv-mix}
 
 -- four columns of four bytes
 pub record IsState (s : State) : Type 0 where

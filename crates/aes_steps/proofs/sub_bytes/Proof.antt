@@ -1,14 +1,14 @@
--- `aes::steps::sub_bytes` meets its contract: the lent table's entries are the S-box's values.
+-- `aes_steps::sub_bytes` meets its contract: the lent table's entries are the S-box's values.
 -- Assumes nothing.
 use mathlib.Core.Path.{ap, _∙_}
 use lib.ListN.{length}
 use Rattle.standards.specs.Fips197.{sbox}
 use Rattle.field.proofs.TableLaws.{sbox-length}
-use Rattle.aes.proofs.LookUpLaws.{sbox-at}
-use Rattle.aes.proofs.StateLaws.{each-state-same}
-use Rattle.aes.proofs.OwnedState.{owned-state}
-use Rattle.aes.proofs.steps.sub_bytes.Statement.{statement}
-use Rattle.aes.proofs.steps.sub_bytes.Tie as tie
+use Rattle.aes_steps.proofs.LookUpLaws.{sbox-at}
+use Rattle.aes_steps.proofs.StateLaws.{each-state-same}
+use Rattle.aes_steps.proofs.OwnedState.{owned-state}
+use Rattle.aes_steps.proofs.sub_bytes.Statement.{statement}
+use Rattle.aes_steps.proofs.sub_bytes.Tie as tie
 
 substitute-all-requires : tie.Need-substitute-all-requires
 substitute-all-requires c κs = ap length (c .pre) ∙ sbox-length

@@ -16,7 +16,7 @@ use denote.Array.{Array, each}
 use Rattle.standards.specs.Strings.{Bytes}
 use Rattle.standards.specs.Fips197.{State}
 use Rattle.block.proofs.Owned.{owned-length, owned-bytes}
-use Rattle.aes.proofs.StateLaws.{IsState}
+use Rattle.aes_steps.proofs.StateLaws.{IsState}
 
 pub four : {A : Type 0} (d : A) (xs : List A) → length xs ≡ 4 → xs ≡ getD xs 0 d ∷ getD xs 1 d ∷ getD xs 2 d ∷ getD xs 3 d ∷ []
 four d [] e = absurd (omega arith)

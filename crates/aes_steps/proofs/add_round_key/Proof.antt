@@ -1,8 +1,8 @@
 use mathlib.Core.Path.{ap, _∙_}
 use Rattle.standards.specs.Fips197.{addState}
 use borrow.Author.Needs.{needs}
-use Rattle.aes.proofs.steps.add_round_key.Statement.{statement}
-use Rattle.aes.proofs.steps.add_round_key.Tie as tie
+use Rattle.aes_steps.proofs.add_round_key.Statement.{statement}
+use Rattle.aes_steps.proofs.add_round_key.Tie as tie
 
 round-key-requires : tie.Need-round-key-requires
 round-key-requires c κs = search needs

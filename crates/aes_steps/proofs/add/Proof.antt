@@ -1,9 +1,9 @@
--- `aesn::add` meets its contract.
+-- `aes_steps::add` meets its contract.
 -- Assumes nothing.
 use mathlib.Core.Path.{refl}
 use Rattle.standards.specs.Strings.{_⊕_}
-use Rattle.aes.proofs.steps.add.Statement.{statement}
-use Rattle.aes.proofs.steps.add.Tie as tie
+use Rattle.aes_steps.proofs.add.Statement.{statement}
+use Rattle.aes_steps.proofs.add.Tie as tie
 
 returns : tie.Need-returns
 unfolding _⊕_

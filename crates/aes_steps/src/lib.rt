@@ -1,10 +1,12 @@
 // The steps of a round (FIPS 197, 5.1) on the state, four columns of four bytes, which goes through each by value.
+pub mod inverse; // inverse.rt: the inverse steps
+
 ghost use mathlib.Core.Path.{_≡_};
 ghost use Prim.Native.Nat.{_+_, _*_, _<_};
 ghost use lib.ListN.{length};
 ghost use Rattle.standards.specs.Fips197.{columns, eachByte, subBytes, shiftRows, row, mixColumn, mixColumns, word, addColumn, addState, roundKey, addRoundKey, fromBlock, toBlock};
 ghost use Rattle.standards.specs.Strings.{_⊕_};
-ghost use Rattle.aes.specs.Steps.{lookUp};
+ghost use Rattle.aes_steps.specs.LookUp.{lookUp};
 ghost use Rattle.field.specs.Tables.{sboxTable};
 
 // A block fills the state column after column (3.4).
@@ -22,23 +24,27 @@ pub fn from_block(b: [u8; 16]) -> [[u8; 4]; 4]
 pub fn to_block(s: [[u8; 4]; 4]) -> [u8; 16]
     ensures { λ r. ⌜ r ≡ toBlock s ⌝ }
 {
+    let a = s[0];
+    let b = s[1];
+    let c = s[2];
+    let d = s[3];
     [
-        s[0][0],
-        s[0][1],
-        s[0][2],
-        s[0][3],
-        s[1][0],
-        s[1][1],
-        s[1][2],
-        s[1][3],
-        s[2][0],
-        s[2][1],
-        s[2][2],
-        s[2][3],
-        s[3][0],
-        s[3][1],
-        s[3][2],
-        s[3][3],
+        a[0],
+        a[1],
+        a[2],
+        a[3],
+        b[0],
+        b[1],
+        b[2],
+        b[3],
+        c[0],
+        c[1],
+        c[2],
+        c[3],
+        d[0],
+        d[1],
+        d[2],
+        d[3],
     ]
 }
 
@@ -93,11 +99,15 @@ pub fn sub_bytes(sbox: &[u8; 256], s: [[u8; 4]; 4]) -> [[u8; 4]; 4]
 pub fn shift_rows(s: [[u8; 4]; 4]) -> [[u8; 4]; 4]
     ensures { λ r. ⌜ r ≡ shiftRows s ⌝ }
 {
+    let a = s[0];
+    let b = s[1];
+    let c = s[2];
+    let d = s[3];
     [
-        [s[0][0], s[1][1], s[2][2], s[3][3]],
-        [s[1][0], s[2][1], s[3][2], s[0][3]],
-        [s[2][0], s[3][1], s[0][2], s[1][3]],
-        [s[3][0], s[0][1], s[1][2], s[2][3]],
+        [a[0], b[1], c[2], d[3]],
+        [b[0], c[1], d[2], a[3]],
+        [c[0], d[1], a[2], b[3]],
+        [d[0], a[1], b[2], c[3]],
     ]
 }
 

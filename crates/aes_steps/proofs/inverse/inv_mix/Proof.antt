@@ -1,9 +1,9 @@
 use Rattle.standards.specs.Strings.{_⊕_}
 use Rattle.standards.specs.Fips197.{row}
-use Rattle.aes.proofs.MixLaws.{inv-mix-row}
+use Rattle.aes_steps.proofs.MixLaws.{inv-mix-row}
 use borrow.Author.Needs.{needs}
-use Rattle.aes.proofs.inv_steps.inv_mix.Statement.{statement}
-use Rattle.aes.proofs.inv_steps.inv_mix.Tie as tie
+use Rattle.aes_steps.proofs.inverse.inv_mix.Statement.{statement}
+use Rattle.aes_steps.proofs.inverse.inv_mix.Tie as tie
 
 double-requires : tie.Need-double-requires
 double-requires c κs = search needs

@@ -1,5 +1,5 @@
 // The inverse steps (FIPS 197, 5.3). AddRoundKey is its own inverse.
-use super::steps::substitute_all;
+use super::substitute_all;
 ghost use mathlib.Core.Path.{_≡_};
 ghost use Rattle.standards.specs.Fips197.{invSubBytes, invShiftRows, row, invMixColumn, invMixColumns};
 ghost use Rattle.field.specs.Tables.{invSboxTable};
@@ -15,11 +15,15 @@ pub fn inv_sub_bytes(inv: &[u8; 256], s: [[u8; 4]; 4]) -> [[u8; 4]; 4]
 pub fn inv_shift_rows(s: [[u8; 4]; 4]) -> [[u8; 4]; 4]
     ensures { λ r. ⌜ r ≡ invShiftRows s ⌝ }
 {
+    let a = s[0];
+    let b = s[1];
+    let c = s[2];
+    let d = s[3];
     [
-        [s[0][0], s[3][1], s[2][2], s[1][3]],
-        [s[1][0], s[0][1], s[3][2], s[2][3]],
-        [s[2][0], s[1][1], s[0][2], s[3][3]],
-        [s[3][0], s[2][1], s[1][2], s[0][3]],
+        [a[0], d[1], c[2], b[3]],
+        [b[0], a[1], d[2], c[3]],
+        [c[0], b[1], a[2], d[3]],
+        [d[0], c[1], b[2], a[3]],
     ]
 }
 

@@ -7,7 +7,7 @@ use lib.ListN.{getD}
 use Rattle.standards.specs.Fips197.{sbox, invSbox}
 use Rattle.field.specs.Tables.{sboxTable, invSboxTable}
 use Rattle.field.proofs.TableLaws.{sbox-entry, inv-sbox-entry}
-use Rattle.aes.specs.Steps.{lookUp}
+use Rattle.aes_steps.specs.LookUp.{lookUp}
 
 pub sbox-at : {t : List ℕ} → t ≡ sboxTable → (b : ℕ) → b < 256 → lookUp t b ≡ sbox b
 unfolding lookUp

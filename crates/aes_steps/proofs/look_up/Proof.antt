@@ -1,10 +1,10 @@
--- `aes::steps::look_up` meets its contract: it is the table's entry.
+-- `aes_steps::look_up` meets its contract: it is the table's entry.
 -- Assumes nothing.
 use mathlib.Core.Path.{refl}
 use borrow.Author.Needs.{needs}
-use Rattle.aes.specs.Steps.{lookUp}
-use Rattle.aes.proofs.steps.look_up.Statement.{statement}
-use Rattle.aes.proofs.steps.look_up.Tie as tie
+use Rattle.aes_steps.specs.LookUp.{lookUp}
+use Rattle.aes_steps.proofs.look_up.Statement.{statement}
+use Rattle.aes_steps.proofs.look_up.Tie as tie
 
 element-copy-out-result : tie.Need-element-copy-out-result
 element-copy-out-result c = search needs
