@@ -1,6 +1,6 @@
 -- MixColumns and its inverse: what the code computes, and that each takes the other back.
 -- Assumes nothing.
-use mathlib.Core.Path.{_≡_, refl}
+use mathlib.Core.Path.{_≡_}
 use Prim.Native.Nat.{ℕ}
 use Rattle.standards.specs.Strings.{_⊕_}
 use Rattle.standards.specs.Fips197.{xtime}

@@ -1,5 +1,4 @@
 use Rattle.standards.specs.Strings.{_⊕_}
-use Rattle.standards.specs.Fips197.{row}
 use Rattle.aes_steps.proofs.MixLaws.{mix-row}
 use borrow.Author.Needs.{needs}
 use Rattle.aes_steps.proofs.mix.Statement.{statement}
