@@ -7,17 +7,19 @@ use vectors::Case;
 
 fn enciphers(c: Case) -> bool {
     let key = c.key;
+    let plain = c.plain;
     let expected = c.cipher;
     let rk = aes::expand_key(&key);
-    let made = aes::encipher(&rk, c.plain);
+    let made = aes::encipher(&rk, plain);
     check::same(&made, &expected)
 }
 
 fn deciphers(c: Case) -> bool {
     let key = c.key;
+    let cipher = c.cipher;
     let expected = c.plain;
     let rk = aes::expand_key(&key);
-    let made = aes::decipher(&rk, c.cipher);
+    let made = aes::decipher(&rk, cipher);
     check::same(&made, &expected)
 }
 
@@ -37,8 +39,13 @@ fn expands() -> [bool; 44] {
     good
 }
 
-// One line: how many agree and, where some do not, which is the first of them, counted from 1.
-fn report(name: &[u8], good: &[bool]) {
+// How many of a list agree, and which is the first that does not, counted from 1; 0 where all agree.
+struct Tally {
+    right: usize,
+    wrong: usize,
+}
+
+fn count(good: &[bool]) -> Tally {
     let mut right: usize = 0;
     let mut wrong: usize = 0;
     let mut i = 0;
@@ -50,15 +57,20 @@ fn report(name: &[u8], good: &[bool]) {
         }
         i += 1;
     }
+    Tally { right, wrong }
+}
+
+fn report(name: &[u8], good: &[bool]) {
+    let t = count(good);
     io::write_all(STDOUT_FILENO, name);
     io::write_all(STDOUT_FILENO, b": ");
-    io::number::print_decimal(STDOUT_FILENO, right as u64);
+    io::print_decimal(STDOUT_FILENO, t.right as u64);
     io::write_all(STDOUT_FILENO, b" of ");
-    io::number::print_decimal(STDOUT_FILENO, good.len() as u64);
+    io::print_decimal(STDOUT_FILENO, good.len() as u64);
     io::write_all(STDOUT_FILENO, b" agree");
-    if wrong != 0 {
+    if t.wrong != 0 {
         io::write_all(STDOUT_FILENO, b"; the first that does not is number ");
-        io::number::print_decimal(STDOUT_FILENO, wrong as u64);
+        io::print_decimal(STDOUT_FILENO, t.wrong as u64);
     }
     io::write_all(STDOUT_FILENO, b"\n");
 }

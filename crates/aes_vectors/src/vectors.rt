@@ -8,7 +8,7 @@ pub struct Case {
     pub cipher: [u8; 16],
 }
 
-fn case(key: &[u8; 32], plain: &[u8; 32], cipher: &[u8; 32]) -> Case {
+fn read(key: &[u8; 32], plain: &[u8; 32], cipher: &[u8; 32]) -> Case {
     Case {
         key: block(key),
         plain: block(plain),
@@ -18,7 +18,7 @@ fn case(key: &[u8; 32], plain: &[u8; 32], cipher: &[u8; 32]) -> Case {
 
 // FIPS 197, appendix B.
 pub fn fips_197_b() -> Case {
-    case(
+    read(
         b"2b7e151628aed2a6abf7158809cf4f3c",
         b"3243f6a8885a308d313198a2e0370734",
         b"3925841d02dc09fbdc118597196a0b32",
@@ -27,7 +27,7 @@ pub fn fips_197_b() -> Case {
 
 // FIPS 197, appendix C.1.
 pub fn fips_197_c_1() -> Case {
-    case(
+    read(
         b"000102030405060708090a0b0c0d0e0f",
         b"00112233445566778899aabbccddeeff",
         b"69c4e0d86a7b0430d8cdb78070b4c55a",
@@ -36,7 +36,7 @@ pub fn fips_197_c_1() -> Case {
 
 // NIST SP 800-38A, F.1.1 (ECB-AES128.Encrypt) and F.1.2 (ECB-AES128.Decrypt), block 1.
 pub fn sp_800_38a_1() -> Case {
-    case(
+    read(
         b"2b7e151628aed2a6abf7158809cf4f3c",
         b"6bc1bee22e409f96e93d7e117393172a",
         b"3ad77bb40d7a3660a89ecaf32466ef97",
@@ -45,7 +45,7 @@ pub fn sp_800_38a_1() -> Case {
 
 // NIST SP 800-38A, F.1.1 (ECB-AES128.Encrypt) and F.1.2 (ECB-AES128.Decrypt), block 2.
 pub fn sp_800_38a_2() -> Case {
-    case(
+    read(
         b"2b7e151628aed2a6abf7158809cf4f3c",
         b"ae2d8a571e03ac9c9eb76fac45af8e51",
         b"f5d3d58503b9699de785895a96fdbaaf",
@@ -54,7 +54,7 @@ pub fn sp_800_38a_2() -> Case {
 
 // NIST SP 800-38A, F.1.1 (ECB-AES128.Encrypt) and F.1.2 (ECB-AES128.Decrypt), block 3.
 pub fn sp_800_38a_3() -> Case {
-    case(
+    read(
         b"2b7e151628aed2a6abf7158809cf4f3c",
         b"30c81c46a35ce411e5fbc1191a0a52ef",
         b"43b1cd7f598ece23881b00e3ed030688",
@@ -63,7 +63,7 @@ pub fn sp_800_38a_3() -> Case {
 
 // NIST SP 800-38A, F.1.1 (ECB-AES128.Encrypt) and F.1.2 (ECB-AES128.Decrypt), block 4.
 pub fn sp_800_38a_4() -> Case {
-    case(
+    read(
         b"2b7e151628aed2a6abf7158809cf4f3c",
         b"f69f2445df4f9b17ad2b417be66c3710",
         b"7b0c785e27e8ad3f8223207104725dd4",
