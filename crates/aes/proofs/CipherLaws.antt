@@ -5,7 +5,7 @@ use mathlib.Core.List.{List}
 use Prim.Native.Nat.{ℕ, zero, suc, _-_}
 use Rattle.standards.specs.Strings.{Bytes}
 use Rattle.standards.specs.Fips197.{State, subBytes, invSubBytes, shiftRows, invShiftRows, mixColumns, invMixColumns, addRoundKey, rounds, cipher, invRounds, invCipher}
-use Rattle.aes.proofs.StateLaws.{IsState, unsub, resub, sub-state, inv-sub-state, unshift, reshift, shift-state, inv-shift-state, unmix, remix, mix-state, inv-mix-state, unadd, add-state}
+use Rattle.aes_steps.proofs.StateLaws.{IsState, unsub, resub, sub-state, inv-sub-state, unshift, reshift, shift-state, inv-shift-state, unmix, remix, mix-state, inv-mix-state, unadd, add-state}
 
 -- the two steps that take no key, which each round has, and their inverses
 abbrev there : State → State

@@ -1,18 +1,18 @@
 -- The round keys of a key are bytes, sixteen for each round and one sixteen more: word after word.
 -- Assumes nothing.
-use mathlib.Core.Path.{_≡_, ap, _∙_}
+use mathlib.Core.Path.{_≡_, _∙_}
 use mathlib.Core.Bool.{Bool, true, false}
-use mathlib.Core.List.{List, _++_}
+use mathlib.Core.List.{List}
 use Prim.Native.Nat.{ℕ, zero, suc, _+_, _-_, _*_, _/_, _%_, _<_, _≤_}
 use native.Mathlib.Omega.{arith}
 use lib.Dec.{eqb, ltb, lit<}
 use lib.ListN.{length, getD, length-append}
 use Rattle.standards.specs.Strings.{Bytes}
-use Rattle.standards.specs.Fips197.{rcon, rconWord, rotWord, subWord, choose, temp, word, addColumn, nextWord, schedule, keyExpansion}
+use Rattle.standards.specs.Fips197.{rcon, rconWord, rotWord, subWord, choose, temp, word, nextWord, schedule, keyExpansion}
 use Rattle.block.proofs.StringLaws.{bytes-append}
 use Rattle.field.proofs.FieldLaws.{xtime-below}
 use Rattle.field.proofs.BoxLaws.{sbox-below}
-use Rattle.aes.proofs.StateLaws.{at-four, column-bytes, add-bytes, word-bytes}
+use Rattle.aes_steps.proofs.StateLaws.{at-four, column-bytes, add-bytes, word-bytes}
 
 rcon-below : (i : ℕ) → rcon i < 256
 unfolding rcon

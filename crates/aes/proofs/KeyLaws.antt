@@ -1,18 +1,16 @@
 -- The key schedule: what the code's branches, stores and turns do.
 -- Assumes nothing.
-use mathlib.Core.Path.{_≡_, refl, sym, ap, ap₂, _∙_, subst}
+use mathlib.Core.Path.{_≡_, refl, sym, ap, ap₂, _∙_}
 use mathlib.Core.List.{List, [], _∷_, _++_}
-use mathlib.Core.Bool.{Bool, true, false}
-use Prim.Native.Nat.{ℕ, zero, suc, _+_, _-_, _*_, _/_, _%_, _<_, _≤_}
+use Prim.Native.Nat.{ℕ, suc, _+_, _-_, _*_, _/_, _%_, _<_, _≤_}
 use native.Mathlib.Nat.{le-div-iff-mul-le, div-lt-iff-lt-mul, le-of-suc-le-suc}
 use native.Mathlib.Numerals.{add-one, add-two, add-three}
 use native.Mathlib.Omega.{arith}
-use lib.Dec.{eqb, ltb}
-use lib.ListN.{length, getD, take, drop, set, length-take, length-append}
-use lib.Seq.{sets, sets-eq, take-at, getD-take, take-suc, take-suc-set, take-all, length-take-le}
+use lib.ListN.{length, getD, take, drop, set, length-append}
+use lib.Seq.{sets-eq, take-at, getD-take, take-suc, take-suc-set, length-take-le}
 use borrow.Author.Tests.{eq-eqb, ne-eqb, lt-ltb, le-ltb}
 use Rattle.standards.specs.Fips197.{word, addColumn}
-use Rattle.standards.specs.Fips197.{rotWord, subWord, rconWord, choose, temp, nextWord, schedule}
+use Rattle.standards.specs.Fips197.{rotWord, subWord, rconWord, temp, nextWord, schedule}
 
 -- ---- a word that the code computes
 next-by : (nk : ℕ) (w : List ℕ) (i : ℕ) (p t u r : List ℕ) → p ≡ word w (i - nk) → t ≡ word w (i - 1) → u ≡ temp nk i t → r ≡ addColumn p u → r ≡ nextWord nk w i

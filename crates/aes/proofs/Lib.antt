@@ -1,7 +1,3 @@
-pub mod MixLaws
-pub mod StateLaws
-pub mod OwnedState
-pub mod LookUpLaws
 pub mod CipherLaws
 pub mod Turns
 pub mod KeyLaws

@@ -1,7 +1,7 @@
 -- The published promise: what the crates above may use of the cipher. For every block and any bytes of round keys, deciphering undoes
 -- enciphering and the reverse, and both give blocks. These are the laws of the cipher on states, carried to blocks.
 -- Assumes nothing.
-use mathlib.Core.Path.{_≡_, refl, sym, ap, ap₂, subst⁻¹, _∙_}
+use mathlib.Core.Path.{_≡_, refl, sym, ap, subst⁻¹, _∙_}
 use mathlib.Core.List.{List, [], _∷_}
 use Prim.Native.Nat.{ℕ, zero, suc, _+_, _*_, _/_, _%_, _<_}
 use lib.Dec.{lit<}
@@ -11,7 +11,7 @@ use Rattle.standards.specs.Fips197.{State, at, fromBlock, toBlock, cipher, invC
 use Rattle.field.specs.Tables.{tabulate}
 use Rattle.aes.specs.Cipher.{enc, dec}
 use Rattle.aes.specs.Cipher.Body.{enc-is, dec-is}
-use Rattle.aes.proofs.StateLaws.{IsState, of-state}
+use Rattle.aes_steps.proofs.StateLaws.{IsState, of-state}
 use Rattle.aes.proofs.CipherLaws.{cipher-state, inv-cipher-state, inv-cipher-cipher, cipher-inv-cipher}
 
 -- ---- blocks and states

@@ -1,2 +1,2 @@
 pub mod Cipher
-pub mod Steps
+pub mod Round

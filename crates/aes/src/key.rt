@@ -1,7 +1,7 @@
 // KEYEXPANSION (FIPS 197, 5.2) for a key of nk words. The schedule is a string of bytes, four to a word.
-use super::steps::add_column;
-use super::steps::key_word;
-use super::steps::substitute;
+use aes_steps::add_column;
+use aes_steps::key_word;
+use aes_steps::substitute;
 ghost use mathlib.Core.Path.{_≡_};
 ghost use mathlib.Core.List.{_++_};
 ghost use Prim.Native.Nat.{_+_, _-_, _*_, _≤_, _<_};

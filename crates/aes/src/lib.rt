@@ -1,9 +1,7 @@
 // AES-128 (FIPS 197). What crates above may use of encipher and decipher is their contracts and proofs/Promise.antt.
 // Whoever works on many blocks names field::sbox() and field::inv_sbox() once and lends them to encipher_with and decipher_with.
-mod inv_steps;
 mod key;
 mod rounds;
-mod steps;
 
 ghost use mathlib.Core.Path.{_≡_};
 ghost use Rattle.standards.specs.Fips197.{keyExpansion};
@@ -25,14 +23,14 @@ pub fn encipher_with(sbox: &[u8; 256], rk: &[u8; 176], b: [u8; 16]) -> [u8; 16]
     requires { ⌜ now sbox ≡ sboxTable ⌝ }
     ensures { λ r. ⌜ r ≡ enc 10 (now (rk .entry)) b ⌝ }
 {
-    steps::to_block(rounds::cipher(sbox, rk, 10, steps::from_block(b)))
+    aes_steps::to_block(rounds::cipher(sbox, rk, 10, aes_steps::from_block(b)))
 }
 
 pub fn decipher_with(inv: &[u8; 256], rk: &[u8; 176], b: [u8; 16]) -> [u8; 16]
     requires { ⌜ now inv ≡ invSboxTable ⌝ }
     ensures { λ r. ⌜ r ≡ dec 10 (now (rk .entry)) b ⌝ }
 {
-    steps::to_block(rounds::inv_cipher(inv, rk, 10, steps::from_block(b)))
+    aes_steps::to_block(rounds::inv_cipher(inv, rk, 10, aes_steps::from_block(b)))
 }
 
 pub fn encipher(rk: &[u8; 176], b: [u8; 16]) -> [u8; 16]

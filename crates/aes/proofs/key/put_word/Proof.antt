@@ -6,7 +6,7 @@ use Prim.Native.Nat.{ℕ, _+_, _*_}
 use lib.ListN.{take}
 use mir.Syntax.{w8}
 use borrow.Kind.Array.{eInt, good-length}
-use Rattle.aes.proofs.OwnedState.{four}
+use Rattle.aes_steps.proofs.OwnedState.{four}
 use Rattle.aes.proofs.KeyLaws.{stored}
 use lib.ListN.{length-set}
 use native.Mathlib.Omega.{arith}

@@ -3,10 +3,10 @@
 use mathlib.Core.Path.{ap, _∙_}
 use mathlib.Core.List.{[], _∷_}
 use Prim.Native.Nat.{_-_}
-use lib.ListN.{length, getD}
+use lib.ListN.{getD}
 use native.Mathlib.Omega.{arith}
 use borrow.Author.Needs.{needs}
-use Rattle.field.proofs.TableLaws.{rcon-entry, rcon-length}
+use Rattle.field.proofs.TableLaws.{rcon-entry}
 use Rattle.aes.proofs.key.rcon_word.Statement.{statement}
 use Rattle.aes.proofs.key.rcon_word.Tie as tie
 

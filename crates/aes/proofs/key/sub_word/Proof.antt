@@ -5,8 +5,8 @@ use lib.ListN.{length}
 use Rattle.standards.specs.Fips197.{sbox}
 use Rattle.block.proofs.Owned.{owned-bytes}
 use Rattle.field.proofs.TableLaws.{sbox-length}
-use Rattle.aes.proofs.LookUpLaws.{sbox-at}
-use Rattle.aes.proofs.StateLaws.{each-byte-same}
+use Rattle.aes_steps.proofs.LookUpLaws.{sbox-at}
+use Rattle.aes_steps.proofs.StateLaws.{each-byte-same}
 use Rattle.aes.proofs.key.sub_word.Statement.{statement}
 use Rattle.aes.proofs.key.sub_word.Tie as tie
 

@@ -3,7 +3,6 @@
 use mathlib.Core.Path.{ap, _∙_}
 use borrow.Author.Needs.{needs}
 use Rattle.standards.specs.Fips197.{shiftRows, mixColumns}
-use Rattle.aes.specs.Steps.{roundSteps}
 use Rattle.aes.proofs.rounds.round.Statement.{statement}
 use Rattle.aes.proofs.rounds.round.Tie as tie
 

@@ -1,0 +1,4 @@
+pub mod MixLaws
+pub mod StateLaws
+pub mod OwnedState
+pub mod LookUpLaws

@@ -1,0 +1,17 @@
+use mathlib.Core.Path.{ap, _∙_}
+use Rattle.standards.specs.Fips197.{addState}
+use borrow.Author.Needs.{needs}
+use Rattle.aes_steps.proofs.add_round_key.Statement.{statement}
+use Rattle.aes_steps.proofs.add_round_key.Tie as tie
+
+round-key-requires : tie.Need-round-key-requires
+round-key-requires c κs = search needs
+
+add-state-requires : tie.Need-add-state-requires
+add-state-requires c κs = search needs
+
+returns : tie.Need-returns
+returns c = c .add-state .ensures ∙ ap (addState (c .before .before .before .args .s)) (c .before .round-key .ensures)
+
+pub add-round-key-spec : {M : Type 1} → statement M
+add-round-key-spec = tie.close (tie.spec round-key-requires add-state-requires returns)

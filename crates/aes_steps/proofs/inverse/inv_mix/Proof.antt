@@ -1,0 +1,42 @@
+use Rattle.standards.specs.Strings.{_⊕_}
+use Rattle.aes_steps.proofs.MixLaws.{inv-mix-row}
+use borrow.Author.Needs.{needs}
+use Rattle.aes_steps.proofs.inverse.inv_mix.Statement.{statement}
+use Rattle.aes_steps.proofs.inverse.inv_mix.Tie as tie
+
+double-requires : tie.Need-double-requires
+double-requires c κs = search needs
+
+double-requires-2 : tie.Need-double-requires-2
+double-requires-2 c κs = search needs
+
+double-requires-3 : tie.Need-double-requires-3
+double-requires-3 c κs = search needs
+
+double-requires-4 : tie.Need-double-requires-4
+double-requires-4 c κs = search needs
+
+double-requires-5 : tie.Need-double-requires-5
+double-requires-5 c κs = search needs
+
+double-requires-6 : tie.Need-double-requires-6
+double-requires-6 c κs = search needs
+
+returns : tie.Need-returns
+unfolding _⊕_
+returns c =
+    inv-mix-row _ _ _ _ _ _ _ _ _ _
+    (c .before .before .before .before .before .double .ensures) (c .before .before .before .before .double2 .ensures)
+    (c .before .before .before .double3 .ensures) (c .before .before .double4 .ensures) (c .before .double5 .ensures) (c .double6 .ensures)
+
+pub inv-mix-spec : {M : Type 1} → statement M
+inv-mix-spec =
+    tie.close
+    (tie.spec
+    double-requires
+    double-requires-2
+    double-requires-3
+    double-requires-4
+    double-requires-5
+    double-requires-6
+    returns)
