@@ -2,32 +2,18 @@
 -- enciphering and the reverse, and both give blocks. These are the laws of the cipher on states, carried to blocks.
 -- Assumes nothing.
 use mathlib.Core.Path.{_≡_, refl, sym, ap, subst⁻¹, _∙_}
-use mathlib.Core.List.{List, [], _∷_}
-use Prim.Native.Nat.{ℕ, zero, suc, _+_, _*_, _/_, _%_, _<_}
-use lib.Dec.{lit<}
-use lib.ListN.{length, getD}
+use mathlib.Core.List.{List}
+use Prim.Native.Nat.{ℕ, _+_, _*_, _/_, _%_}
+use lib.ListN.{getD}
 use Rattle.standards.specs.Strings.{Bytes, Block}
 use Rattle.standards.specs.Fips197.{State, at, fromBlock, toBlock, cipher, invCipher, encipher, decipher}
-use Rattle.field.specs.Tables.{tabulate}
+use Rattle.block.proofs.Literals.{places, tabulate-bytes}
 use Rattle.aes.specs.Cipher.{enc, dec}
 use Rattle.aes.specs.Cipher.Body.{enc-is, dec-is}
 use Rattle.aes_steps.proofs.StateLaws.{IsState, of-state}
 use Rattle.aes.proofs.CipherLaws.{cipher-state, inv-cipher-state, inv-cipher-cipher, cipher-inv-cipher}
 
 -- ---- blocks and states
-
--- a string is its elements, written out
-listed : (xs : List ℕ) (n : ℕ) → length xs ≡ n → xs ≡ tabulate n (λ i. getD xs i 0)
-listed xs n e = all xs ∙ ap (λ (k : ℕ). tabulate k (λ i. getD xs i 0)) e
-  where
-    all : (xs : List ℕ) → xs ≡ tabulate (length xs) (λ i. getD xs i 0)
-    all [] = refl
-    all (x ∷ xs) = ap (λ (l : List ℕ). x ∷ l) (all xs)
-
-tabulate-bytes : (n : ℕ) (f : ℕ → ℕ) → ((i : ℕ) → f i < 256) → Bytes (tabulate n f)
-tabulate-bytes zero f h i = lit< tt
-tabulate-bytes (suc n) f h zero = h 0
-tabulate-bytes (suc n) f h (suc i) = tabulate-bytes n (λ k. f (suc k)) (λ k. h (suc k)) i
 
 from-state : {b : List ℕ} → Block b → IsState (fromBlock b)
 from-state {b} h = of-state (λ r c. getD b (r + 4 * c) 0) (λ r c. h .bytes (r + 4 * c))
@@ -41,7 +27,7 @@ undone : (f g : State → State) → ((s : State) → IsState s → IsState (f s
 undone f g keeps undoes b h =
     ap (λ s. toBlock (g s)) (sym (keeps (fromBlock b) (from-state h) .shape))
     ∙ ap toBlock (undoes (fromBlock b) (from-state h))
-    ∙ sym (listed b 16 (h .size))
+    ∙ sym (places 16 b (h .size))
 
 -- ---- the promise
 

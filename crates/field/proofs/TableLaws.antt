@@ -5,7 +5,8 @@ use Prim.Native.Nat.{ℕ, zero, suc, _<_}
 use native.Mathlib.Nat.{not-suc-le-zero, le-of-suc-le-suc}
 use lib.ListN.{length, getD}
 use Rattle.standards.specs.Fips197.{sbox, invSbox, rcon}
-use Rattle.field.specs.Tables.{tabulate, sboxTable, invSboxTable, rconTable}
+use Rattle.standards.specs.Strings.{tabulate}
+use Rattle.field.specs.Tables.{sboxTable, invSboxTable, rconTable}
 use Rattle.field.specs.Tables.Body.{sbox-table-is, inv-sbox-table-is, rcon-table-is}
 
 entry : (n : ℕ) (f : ℕ → ℕ) (i : ℕ) → i < n → getD (tabulate n f) i 0 ≡ f i

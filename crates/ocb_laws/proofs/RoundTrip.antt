@@ -1,42 +1,19 @@
 -- OCB-DECRYPT takes back what OCB-ENCRYPT gave, and takes nothing else: from the laws that opening and sealing undo each other.
 -- Assumes nothing.
-use mathlib.Core.Path.{_≡_, refl, sym, ap, ap₂, _∙_}
-use mathlib.Core.Bool.{Bool, true, false, _&&_}
-use mathlib.Core.List.{List, [], _∷_, _++_}
-use Prim.Native.Nat.{ℕ, _-_, _≤_}
+use mathlib.Core.Path.{_≡_, refl, sym, ap, ap₂, subst, _∙_}
+use mathlib.Core.Bool.{Bool, true, false}
+use mathlib.Core.List.{List, _++_}
+use Prim.Native.Nat.{ℕ, _+_, _-_, _≤_}
 use native.Mathlib.Omega.{arith}
-use lib.Dec.{eqb}
+use lib.Dec.{T as So}
 use lib.ListN.{length, take, length-append}
 use lib.Seq.{take-at, drop-at, length-take-le}
-use borrow.Author.Tests.{eqb-true, eq-eqb}
 use Rattle.standards.specs.Strings.{Bytes, Block}
 use Rattle.standards.specs.Rfc7253.{Key, Offset-0, sealBlock, openBlock, text, endOffset, sealSum, openSum, Tag, OCB-ENCRYPT, OCB-DECRYPT, VALID, same, validIf, decrypted}
+use Rattle.block.proofs.StringLaws.{same-self, same-equal}
 use Rattle.ocb_laws.proofs.Cipher.{Cipher}
-use Rattle.ocb_laws.proofs.Sizes.{end-block, seal-sum-block, tag-length}
+use Rattle.ocb_laws.proofs.Sizes.{seal-makes, open-makes, text-length, text-bytes, end-block, seal-sum-block, tag-length}
 use Rattle.ocb_laws.proofs.Undo.{open-seal, open-seal-sum, open-seal-end, seal-open, seal-open-sum, seal-open-end}
-
--- ---- the comparison
-
-pub same-self : (S : List ℕ) → same S S ≡ true
-unfolding same
-same-self [] = refl
-same-self (x ∷ S) = ap₂ (λ (a b : Bool). a && b) (eq-eqb x x refl) (same-self S)
-
-pub no : {X : Type 0} → false ≡ true → X
-no h = let z : _≡_ {A = ℕ} 0 1 = cc in absurd (omega arith)
-
-pub both : (a b : Bool) → a && b ≡ true → (a ≡ true) × (b ≡ true)
-both true b h = (refl, h)
-both false b h = (h, no h)
-
-pub same-equal : (S T : List ℕ) → same S T ≡ true → S ≡ T
-unfolding same
-same-equal [] [] h = refl
-same-equal [] (y ∷ T) h = no h
-same-equal (x ∷ S) [] h = no h
-same-equal (x ∷ S) (y ∷ T) h =
-    let p = both (eqb x y) (same S T) h in
-    ap₂ (λ (a : ℕ) (l : List ℕ). a ∷ l) (eqb-true x y (p .0)) (same-equal S T (p .1))
 
 -- ---- the tag behind the ciphertext
 
@@ -73,10 +50,23 @@ module _ {K : Key} (E : Cipher K) (t : ℕ) (N A : List ℕ) (short : t ≤ 16) 
       ap (OCB-ENCRYPT K t N A) (sym (v .1))
       ∙ ap₂ (λ (a b : List ℕ). a ++ b)
       (seal-open E O C first hC)
-      (ap₂ (λ (s o : List ℕ). take t (Tag K s o A)) (seal-open-sum E O C first hC) (seal-open-end E O C first hC) ∙ same-equal tag T (v .0))
+      (ap₂ (λ (s o : List ℕ). take t (Tag K s o A)) (seal-open-sum E O C first hC) (seal-open-end E O C first hC) ∙ same-equal tag T (subst So (sym (v .0)) tt))
 
-  -- no two plaintexts have one ciphertext
-  pub encrypt-once : (P Q : List ℕ) → Bytes P → Bytes Q → OCB-ENCRYPT K t N A P ≡ OCB-ENCRYPT K t N A Q → P ≡ Q
-  encrypt-once P Q hP hQ e =
-      let v : VALID P ≡ VALID Q = sym (decrypt-encrypt P hP) ∙ ap (OCB-DECRYPT K t N A) e ∙ decrypt-encrypt Q hQ in
-      cc
+  -- what is decrypted is bytes
+  pub decrypt-bytes : (C T P : List ℕ) → Bytes C → length T ≡ t → OCB-DECRYPT K t N A (C ++ T) ≡ VALID P → Bytes P
+  unfolding decrypted
+  decrypt-bytes C T P hC hT e =
+      let O : List ℕ = Offset-0 K t N in
+      let tag : List ℕ = take t (Tag K (openSum K O C) (endOffset K O C) A) in
+      let v = valid-is (same tag T) (text openBlock K O C) P (sym (decrypt-split K N A C T t hT) ∙ e) in
+      subst Bytes (v .1) (text-bytes E O C first hC openBlock (open-makes E))
+
+  -- the tag makes a ciphertext t bytes longer than its plaintext
+  pub encrypt-length : (P : List ℕ) → Bytes P → length (OCB-ENCRYPT K t N A P) ≡ length P + t
+  unfolding OCB-ENCRYPT
+  encrypt-length P hP =
+      let O : List ℕ = Offset-0 K t N in
+      let tag : List ℕ = Tag K (sealSum K O P) (endOffset K O P) A in
+      let size : length tag ≡ 16 = tag-length E (sealSum K O P) (endOffset K O P) A (seal-sum-block E O P first hP) (end-block E O P first hP) in
+      length-append (text sealBlock K O P) (take t tag)
+      ∙ ap₂ (λ (i j : ℕ). i + j) (text-length E O P first hP sealBlock (seal-makes E)) (length-take-le t tag (omega arith))

@@ -60,6 +60,11 @@ bytes S = toBytes (length S / 8) (str2num S)
 abbrev pub part : List ℕ → ℕ → ℕ → List ℕ
 part S i j = take (j + 1 - i) (drop (i - 1) S)
 
+-- f 0, f 1, .. f (n - 1)
+abbrev pub tabulate : ℕ → (ℕ → ℕ) → List ℕ
+tabulate zero f = []
+tabulate (suc n) f = f 0 ∷ tabulate n (λ i. f (suc i))
+
 -- each number of the string is a byte
 abbrev pub Bytes : List ℕ → Type 0
 Bytes S = (i : ℕ) → getD S i 0 < 256

@@ -5,15 +5,15 @@ use Prim.Native.Nat.{ℕ}
 use native.Mathlib.Omega.{arith}
 use borrow.Author.Needs.{needs}
 use lib.ListN.{getD}
-use Rattle.standards.specs.Strings.{_⊕_, Block}
+use Rattle.standards.specs.Strings.{_⊕_, tabulate, Block}
 use Rattle.standards.specs.Rfc7253.{double}
 use Rattle.block.proofs.DoubleLaws.{doubleBytes, double-is}
-use Rattle.block.proofs.Literals.{literal, places}
+use Rattle.block.proofs.Literals.{places}
 use Rattle.block.proofs.Owned.{owned-bytes, owned-block}
 use Rattle.block.proofs.double.Statement.{statement}
 use Rattle.block.proofs.double.Tie as tie
 
-bytewise : (b : List ℕ) → Block b → doubleBytes (literal 16 (λ i. getD b i 0)) ≡ double b
+bytewise : (b : List ℕ) → Block b → doubleBytes (tabulate 16 (λ i. getD b i 0)) ≡ double b
 bytewise b h = ap doubleBytes (sym (places 16 b (h .size))) ∙ sym (double-is b h)
 
 top-bit-fits : tie.Need-mul-r

@@ -5,12 +5,13 @@ use Prim.Native.Nat.{ℕ, _+_, _-_, _≤_}
 use native.Mathlib.Omega.{arith}
 use borrow.Author.Needs.{needs}
 use lib.ListN.{length, getD, take, drop, length-take, length-drop}
-use Rattle.block.proofs.Literals.{literal, places}
+use Rattle.standards.specs.Strings.{tabulate}
+use Rattle.block.proofs.Literals.{places}
 use Rattle.block.proofs.load.Statement.{statement}
 use Rattle.block.proofs.load.Tie as tie
 
 -- as the code makes the part, by its two ends
-bytewise : (S : List ℕ) (at : ℕ) → at + 16 ≤ length S → literal 16 (λ i. getD (take (at + 16 - at) (drop at S)) i 0) ≡ take 16 (drop at S)
+bytewise : (S : List ℕ) (at : ℕ) → at + 16 ≤ length S → tabulate 16 (λ i. getD (take (at + 16 - at) (drop at S)) i 0) ≡ take 16 (drop at S)
 bytewise S at h =
     let e : at + 16 - at ≡ 16 = omega arith in
     sym (places 16 (take (at + 16 - at) (drop at S)) (simp (length-take, length-drop) (omega arith)))

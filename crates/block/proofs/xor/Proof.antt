@@ -5,14 +5,14 @@ use Prim.Native.Nat.{ℕ}
 use native.Mathlib.Omega.{arith}
 use borrow.Author.Needs.{needs}
 use lib.ListN.{length, getD}
-use Rattle.standards.specs.Strings.{_⊕_, _xor_}
-use Rattle.block.proofs.Literals.{literal, is-literal}
+use Rattle.standards.specs.Strings.{_⊕_, _xor_, tabulate}
+use Rattle.block.proofs.Literals.{is-literal}
 use Rattle.block.proofs.StringLaws.{xor-length, xor-at}
 use Rattle.block.proofs.Owned.{owned-length}
 use Rattle.block.proofs.xor.Statement.{statement}
 use Rattle.block.proofs.xor.Tie as tie
 
-bytewise : (a b : List ℕ) → length a ≡ 16 → length b ≡ 16 → literal 16 (λ i. getD a i 0 ⊕ getD b i 0) ≡ a xor b
+bytewise : (a b : List ℕ) → length a ≡ 16 → length b ≡ 16 → tabulate 16 (λ i. getD a i 0 ⊕ getD b i 0) ≡ a xor b
 bytewise a b ha hb =
     sym
     (is-literal 16 (λ i. getD a i 0 ⊕ getD b i 0) (a xor b) (xor-length a b ∙ ha)

@@ -1,7 +1,8 @@
 -- What the tables are.
 use mathlib.Core.Path.{_≡_, refl}
 use Rattle.standards.specs.Fips197.{sbox, invSbox, rcon}
-use Rattle.field.specs.Tables.{tabulate, sboxTable, invSboxTable, rconTable}
+use Rattle.standards.specs.Strings.{tabulate}
+use Rattle.field.specs.Tables.{sboxTable, invSboxTable, rconTable}
 
 pub sbox-table-is : sboxTable ≡ tabulate 256 sbox
 unfolding sboxTable
