@@ -1,0 +1,73 @@
+-- The key of RFC 7253 that AES-128 makes of sixteen bytes: its cipher keeps the laws, and a state that set_up made of them holds that key, as far as
+-- its table goes. Here alone the cipher is named as FIPS 197's. Assumes nothing.
+use mathlib.Core.Path.{_≡_, ap₂, subst}
+use mathlib.Core.List.{List}
+use Prim.Native.Nat.{ℕ, _*_}
+use lib.ListN.{length, drop}
+use Rattle.standards.specs.Strings.{zeros, Bytes, Block}
+use Rattle.standards.specs.Fips197.{keyExpansion}
+use Rattle.standards.specs.Rfc7253.{Key, keyed, double, blockAt, Offset-0}
+use Rattle.standards.specs.AesOcb.{AES-128}
+use Rattle.block.proofs.StringLaws.{bytes-take, bytes-drop, block-zeros}
+use Rattle.block.proofs.Readings.{offset-same}
+use Rattle.aes.specs.Cipher.{enc, dec}
+use Rattle.aes.specs.Cipher.Body.{enc-is, dec-is}
+use Rattle.aes.proofs.Promise.{enc-block, dec-block, dec-enc, enc-dec}
+use Rattle.aes.proofs.Expansion.{expansion-bytes}
+use Rattle.ocb_laws.proofs.Cipher.{Cipher}
+use Rattle.ocb_laws.proofs.Agree.{Agrees}
+use Rattle.ocb_variables.specs.declared.State.{State}
+use Rattle.ocb_variables.specs.Held.{held}
+use Rattle.ocb_variables.specs.State.{stateOf}
+use Rattle.ocb_variables.proofs.BlockLaws.{double-block, doubled-block, initial-offset-block}
+use Rattle.ocb_variables.proofs.KeyLaws.{state-agrees}
+use Rattle.ocb.specs.Terms.{Inside, HoldsBytes}
+
+-- the key of round keys w, by doubling
+abbrev keyOf : List ℕ → Key
+keyOf w = keyed (enc 10 w) (dec 10 w)
+
+key-cipher : (w : List ℕ) → Bytes w → Cipher (keyOf w)
+key-cipher w h =
+    let star : List ℕ = enc 10 w (zeros 16) in
+    record {
+      enc-block = λ b. enc-block 10 w b h;
+      dec-block = λ b. dec-block 10 w b h;
+      dec-enc = λ b. dec-enc 10 w b h;
+      enc-dec = λ b. enc-dec 10 w b h;
+      star = enc-block 10 w (zeros 16) h block-zeros .bytes;
+      dollar = double-block star .bytes;
+      table = λ i. doubled-block i (double star) .bytes;
+    }
+
+-- the cipher under expanded round keys is FIPS 197's
+fips : (k : List ℕ) → keyOf (keyExpansion 4 10 k) ≡ AES-128 k
+fips k =
+    let w : List ℕ = keyExpansion 4 10 k in
+    ap₂ keyed (λ i b. enc-is 10 w b i) (λ i b. dec-is 10 w b i)
+
+pub aes-cipher : (k : List ℕ) → Bytes k → Cipher (AES-128 k)
+aes-cipher k h = subst Cipher (fips k) (key-cipher (keyExpansion 4 10 k) (expansion-bytes 4 10 k h))
+
+pub state-holds : (k : List ℕ) (m : ℕ) → Agrees m (held (stateOf (keyExpansion 4 10 k) m)) (AES-128 k)
+state-holds k m = subst (Agrees m (held (stateOf (keyExpansion 4 10 k) m))) (fips k) (state-agrees (keyExpansion 4 10 k) m)
+
+-- the first offset is a block, for the sizes that are admitted
+pub first-block : (K : Key) → Cipher K → (t : ℕ) (N : List ℕ) → Inside 6 15 (length N) → Inside 1 16 t → Bytes N → Block (Offset-0 K t N)
+first-block K C t N n i h =
+    subst Block (offset-same t N (n .least) (n .most) (i .least) (i .most) h K (C .enc-block)) (initial-offset-block K t N)
+
+-- the key that any state holds, whoever made it
+pub held-cipher : (s : State) → HoldsBytes s → Cipher (held s)
+unfolding blockAt
+held-cipher s h =
+    let w : List ℕ = s .«round_keys» in
+    record {
+      enc-block = λ b. enc-block 10 w b (h .keys);
+      dec-block = λ b. dec-block 10 w b (h .keys);
+      dec-enc = λ b. dec-enc 10 w b (h .keys);
+      enc-dec = λ b. enc-dec 10 w b (h .keys);
+      star = h .star;
+      dollar = h .dollar;
+      table = λ i. bytes-take 16 (drop (i * 16) (s .table)) (bytes-drop (i * 16) (s .table) (h .table));
+    }

@@ -1,0 +1,207 @@
+-- The demands, as theorems. Each speaks of any answer that meets the promise of set_up, seal or open (specs/Answers.antt), and so of what the code answers;
+-- for a state made from a key it speaks of that key, RFC 7253 and FIPS 197 alone. Under one nonce N and associated data A, S is the text that is lent and T
+-- the tag or its place; r is the answer, S' and T' are what is left. Assumes nothing.
+use mathlib.Core.Path.{_≡_, refl, sym, ap, ap₂, subst, subst₂, _∙_}
+use mathlib.Core.Logic.{_↔_}
+use mathlib.Core.List.{List, _++_}
+use Prim.Native.Nat.{ℕ, zero, suc, _+_, _/_, _≤_}
+use native.Mathlib.Omega.{arith}
+use lib.ListN.{length, length-drop, take-append-drop}
+use lib.Seq.{length-take-le}
+use Rattle.standards.specs.Strings.{zeros, Bytes, Block}
+use Rattle.standards.specs.Fips197.{keyExpansion}
+use Rattle.standards.specs.Rfc7253.{Key, Plaintext, VALID, INVALID, Offset-0, OCB-ENCRYPT, OCB-ENCRYPT-inputs, OCB-DECRYPT, OCB-DECRYPT-inputs}
+use Rattle.standards.specs.AesOcb.{AES-128}
+use Rattle.ocb_laws.proofs.Cipher.{Cipher}
+use Rattle.ocb_laws.proofs.RoundTrip.{decrypt-encrypt, encrypt-decrypt, decrypt-bytes, encrypt-length}
+use Rattle.ocb_laws.proofs.Calls.{encrypt-calls, decrypt-calls}
+use Rattle.ocb_variables.specs.declared.State.{State}
+use Rattle.ocb_variables.specs.Held.{held}
+use Rattle.ocb_variables.specs.State.{stateOf}
+use Rattle.ocb.specs.declared.SetUp.{SetUp}
+use Rattle.ocb.specs.declared.Answer.{Answer}
+use Rattle.ocb.specs.Answers.{setUpNumber, refusedSetUp, madeUnless, setUp, refusal, Outcome, unless, encrypted, verdict, decrypted, sealed, opened, Leaves}
+use Rattle.ocb.specs.Terms.{MadeFrom, InRange, Encrypts, Told, HoldsBytes}
+use Rattle.ocb.proofs.Refusals.{refused-2, in-range, refusal-most}
+use Rattle.ocb.proofs.AesKey.{aes-cipher, held-cipher, first-block}
+use Rattle.ocb.proofs.MadeState.{seal-is, open-is}
+
+-- the number that the sizes ask for; OCB-DECRYPT's verdict under a key, and how many blocks it takes
+abbrev asked : State → List ℕ → List ℕ → List ℕ → List ℕ → ℕ
+asked s N A S T = refusal (s .m) (length N) (length T) (length S) (length A)
+
+abbrev decryption : Key → List ℕ → List ℕ → List ℕ → List ℕ → Plaintext
+decryption K N A S T = OCB-DECRYPT K (length T) N A (S ++ T)
+
+abbrev inputs : Key → List ℕ → List ℕ → List ℕ → List ℕ → ℕ
+inputs K N A S T = length (OCB-DECRYPT-inputs K (length T) N A (S ++ T))
+
+-- ---- Demand 1: every input is answered, and what a refusal leaves
+
+zeros-after-7 : (n : ℕ) (D : Plaintext) (calls : ℕ) (S T : List ℕ) {r : Answer} {S' T' : List ℕ} → n ≤ 6
+    → Leaves (unless n S T (verdict D calls S T)) r S' T' → r .number ≡ 7 → (S' ≡ zeros (length S)) × (T' ≡ T)
+zeros-after-7 zero (VALID P) calls S T h L e = absurd (omega (arith, L .number))
+zeros-after-7 zero INVALID calls S T h L e = (L .text-left, L .tag-left)
+zeros-after-7 (suc n) D calls S T h L e = absurd (omega (arith, L .number))
+
+-- a refused tag leaves every byte of the text zero, and the tag as it was
+pub refused-zero : (s : State) (N A S T : List ℕ) {r : Answer} {S' T' : List ℕ} → Leaves (opened s N A S T) r S' T' → r .number ≡ 7
+    → (S' ≡ zeros (length S)) × (T' ≡ T)
+unfolding opened
+refused-zero s N A S T L e =
+    zeros-after-7 (asked s N A S T) (decryption (held s) N A S T) (inputs (held s) N A S T) S T
+    (refusal-most (s .m) (length N) (length T) (length S) (length A)) L e
+
+kept : (n : ℕ) (o : Outcome) (S T : List ℕ) {r : Answer} {S' T' : List ℕ} → Leaves (unless n S T o) r S' T' → (n ≡ 0 → r .number ≡ o .number → ⊥)
+    → (S' ≡ S) × (T' ≡ T) × (r .calls ≡ 0)
+kept zero o S T L h = absurd (h refl (L .number))
+kept (suc n) o S T L h = (L .text-left, L .tag-left, L .calls)
+
+not-told : (D : Plaintext) (calls : ℕ) (S T : List ℕ) {n : ℕ} → (n ≡ 0 → ⊥) → (n ≡ 7 → ⊥) → n ≡ verdict D calls S T .number → ⊥
+not-told (VALID P) calls S T h k e = h e
+not-told INVALID calls S T h k e = k e
+
+-- any other refusal leaves the text and the tag as they were, and calls nothing
+pub sizes-untouched : (s : State) (N A S T : List ℕ) {r : Answer} {S' T' : List ℕ} → (r .number ≡ 0 → ⊥)
+    → (Leaves (sealed s N A S T) r S' T' → (S' ≡ S) × (T' ≡ T) × (r .calls ≡ 0))
+    × ((r .number ≡ 7 → ⊥) → Leaves (opened s N A S T) r S' T' → (S' ≡ S) × (T' ≡ T) × (r .calls ≡ 0))
+unfolding sealed opened
+sizes-untouched s N A S T h = (
+  λ L. kept (asked s N A S T) (encrypted (held s) N A S T) S T L (λ _ e. h e),
+  λ k L. kept (asked s N A S T) (decrypted (held s) N A S T) S T L (λ _ e. not-told (decryption (held s) N A S T) (inputs (held s) N A S T) S T h k e),
+)
+
+never : (n : ℕ) (s : State) → (madeUnless n s .number ≡ 0 → ⊥) → (nonce tag text ad : ℕ) → refusal (madeUnless n s .state .m) nonce tag text ad ≡ 2
+unfolding refusedSetUp
+never zero s h nonce tag text ad = absurd (h refl)
+never (suc n) s h nonce tag text ad = sym (refused-2 0 nonce tag text ad refl)
+
+-- a refused set-up's state is answered with 2 forever
+pub refused-forever : (k : List ℕ) (m : ℕ) (u : SetUp) → u ≡ setUp k m → (u .number ≡ 0 → ⊥) → (nonce tag text ad : ℕ) → refusal (u .state .m) nonce tag text ad ≡ 2
+unfolding setUp
+refused-forever k m u e h nonce tag text ad =
+    ap (λ (v : SetUp). refusal (v .state .m) nonce tag text ad) e
+    ∙ never (setUpNumber k m) (stateOf (keyExpansion 4 10 k) m) (λ z. h (ap (λ (v : SetUp). v .number) e ∙ z)) nonce tag text ad
+
+-- ---- Demand 2: what seal and open do is RFC 7253's, over AES of FIPS 197
+
+told : (D : Plaintext) (calls : ℕ) (S T : List ℕ) {r : Answer} {S' T' : List ℕ} → Leaves (verdict D calls S T) r S' T' → Told D S r S'
+told (VALID P) calls S T L = (L .number, L .text-left)
+told INVALID calls S T L = (L .number, L .text-left)
+
+module _ {k : List ℕ} {m : ℕ} {u : SetUp} (made : MadeFrom k m u) (N A S T : List ℕ)
+    (sizes : InRange m (length N) (length T) (length S) (length A)) {r : Answer} {S' T' : List ℕ} where
+  pub seal-rfc : Leaves (sealed (u .state) N A S T) r S' T' → (r .number ≡ 0) × (S' ++ T' ≡ OCB-ENCRYPT (AES-128 k) (length T) N A S)
+  seal-rfc L =
+      let e = seal-is made N A S T sizes in (
+        L .number ∙ ap (λ (o : Outcome). o .number) e,
+        ap₂ (λ (a b : List ℕ). a ++ b) (L .text-left ∙ ap (λ (o : Outcome). o .text) e) (L .tag-left ∙ ap (λ (o : Outcome). o .tag) e)
+            ∙ take-append-drop (length S) (OCB-ENCRYPT (AES-128 k) (length T) N A S),
+      )
+
+  pub open-rfc : Leaves (opened (u .state) N A S T) r S' T' → Told (OCB-DECRYPT (AES-128 k) (length T) N A (S ++ T)) S r S'
+  open-rfc L = told (decryption (AES-128 k) N A S T) (inputs (AES-128 k) N A S T) S T (subst (λ (o : Outcome). Leaves o r S' T') (open-is made N A S T sizes) L)
+
+  -- the count of calls is the number of blocks that RFC 7253's procedure hands to the cipher
+  pub calls-seal : Leaves (sealed (u .state) N A S T) r S' T'
+      → (r .calls ≡ length (OCB-ENCRYPT-inputs (AES-128 k) (length T) N A S)) × (r .calls ≡ (length S + 15) / 16 + (length A + 15) / 16 + 2)
+  calls-seal L =
+      let e : r .calls ≡ length (OCB-ENCRYPT-inputs (AES-128 k) (length T) N A S) = L .calls ∙ ap (λ (o : Outcome). o .calls) (seal-is made N A S T sizes) in
+      (e, e ∙ encrypt-calls (AES-128 k) (length T) N A S)
+
+  pub calls-open : Leaves (opened (u .state) N A S T) r S' T'
+      → (r .calls ≡ length (OCB-DECRYPT-inputs (AES-128 k) (length T) N A (S ++ T))) × (r .calls ≡ (length S + 15) / 16 + (length A + 15) / 16 + 2)
+  calls-open L =
+      let e : r .calls ≡ length (OCB-DECRYPT-inputs (AES-128 k) (length T) N A (S ++ T)) =
+      L .calls ∙ ap (λ (o : Outcome). o .calls) (open-is made N A S T sizes) ∙ verdict-calls (OCB-DECRYPT (AES-128 k) (length T) N A (S ++ T)) in
+      (e, e ∙ decrypt-calls (AES-128 k) (length T) N A S T refl)
+    where
+      verdict-calls : (D : Plaintext) {n : ℕ} → verdict D n S T .calls ≡ n
+      verdict-calls (VALID P) = refl
+      verdict-calls INVALID = refl
+
+-- ---- Demand 3: open accepts exactly what RFC 7253's encryption produces, the buffer then holds that plaintext, and no second one exists
+
+accepted-text : (D : Plaintext) (S : List ℕ) (r : Answer) (S' : List ℕ) → Told D S r S' → r .number ≡ 0 → D ≡ VALID S'
+accepted-text (VALID P) S r S' t e = ap VALID (sym (t .1))
+accepted-text INVALID S r S' t e = absurd (omega (arith, t .0))
+
+module _ {k : List ℕ} {m : ℕ} {u : SetUp} (made : MadeFrom k m u) (N A S T : List ℕ)
+    (sizes : InRange m (length N) (length T) (length S) (length A)) (N-bytes : Bytes N) (S-bytes : Bytes S) where
+  cipher : Cipher (AES-128 k)
+  cipher = aes-cipher k (made .key-bytes)
+
+  first : Block (Offset-0 (AES-128 k) (length T) N)
+  first = first-block (AES-128 k) cipher (length T) N (sizes .nonce-size) (sizes .tag-size) N-bytes
+
+  -- a plaintext that encrypts to just these is what decryption gives
+  decrypts : (P : List ℕ) → Encrypts k N A P S T → OCB-DECRYPT (AES-128 k) (length T) N A (S ++ T) ≡ VALID P
+  decrypts P E =
+      ap (OCB-DECRYPT (AES-128 k) (length T) N A) (sym (E .gives))
+      ∙ decrypt-encrypt cipher (length T) N A (sizes .tag-size .most) first P (E .plain-bytes)
+
+  pub open-only : (P Q : List ℕ) → Encrypts k N A P S T → Encrypts k N A Q S T → P ≡ Q
+  open-only P Q E F = let e : VALID P ≡ VALID Q = sym (decrypts P E) ∙ decrypts Q F in cc
+
+  module _ {r : Answer} {S' T' : List ℕ} (L : Leaves (opened (u .state) N A S T) r S' T') where
+    pub open-gives : r .number ≡ 0 → Encrypts k N A S' S T
+    open-gives e =
+        let D : OCB-DECRYPT (AES-128 k) (length T) N A (S ++ T) ≡ VALID S' = accepted-text (decryption (AES-128 k) N A S T) S r S' (open-rfc made N A S T sizes L) e in
+        record {
+          plain-bytes = decrypt-bytes cipher (length T) N A (sizes .tag-size .most) first S T S' S-bytes refl D;
+          gives = encrypt-decrypt cipher (length T) N A (sizes .tag-size .most) first S T S' S-bytes refl D;
+        }
+
+    pub open-exactly : (r .number ≡ 0) ↔ ((P : List ℕ) × Encrypts k N A P S T)
+    open-exactly = (
+      λ e. (S', open-gives e),
+      λ p. subst (λ (D : Plaintext). Told D S r S') (decrypts (p .0) (p .1)) (open-rfc made N A S T sizes L) .0,
+    )
+
+not-refused : (n : ℕ) (o : Outcome) (S T : List ℕ) {r : Answer} {S' T' : List ℕ} → Leaves (unless n S T o) r S' T' → r .number ≡ 0 → (n ≡ 0) × Leaves o r S' T'
+not-refused zero o S T L e = (refl, L)
+not-refused (suc n) o S T L e = absurd (omega (arith, L .number))
+
+-- what seal wrote, open takes back, under any state, whoever made it
+pub seal-opens : (s : State) → HoldsBytes s → (N A P T : List ℕ) → Bytes N → Bytes P
+    → {r : Answer} {C T' : List ℕ} → Leaves (sealed s N A P T) r C T' → r .number ≡ 0
+    → {q : Answer} {P' T'' : List ℕ} → Leaves (opened s N A C T') q P' T'' → (q .number ≡ 0) × (P' ≡ P)
+unfolding sealed opened
+seal-opens s h N A P T N-bytes P-bytes {r} {C} {T'} L e {q} {P'} {T''} M =
+    let K : Key = held s in
+    let t : ℕ = length T in
+    let E : List ℕ = OCB-ENCRYPT K t N A P in
+    let done = not-refused (asked s N A P T) (encrypted K N A P T) P T L e in
+    let sizes : InRange (s .m) (length N) t (length P) (length A) = in-range (s .m) (length N) t (length P) (length A) (done .0) in
+    let cipher : Cipher K = held-cipher s h in
+    let first : Block (Offset-0 K t N) = first-block K cipher t N (sizes .nonce-size) (sizes .tag-size) N-bytes in
+    let long : length E ≡ length P + t = encrypt-length cipher t N A (sizes .tag-size .most) first P P-bytes in
+    let text-long : length C ≡ length P = ap length (done .1 .text-left) ∙ length-take-le (length P) E (omega arith) in
+    let tag-long : length T' ≡ t = ap length (done .1 .tag-left) ∙ length-drop (length P) E ∙ omega arith in
+    let whole : C ++ T' ≡ E = ap₂ (λ (a b : List ℕ). a ++ b) (done .1 .text-left) (done .1 .tag-left) ∙ take-append-drop (length P) E in
+    let asks : asked s N A C T' ≡ 0 = ap₂ (λ (i j : ℕ). refusal (s .m) (length N) i j (length A)) tag-long text-long ∙ done .0 in
+    let valid : decryption K N A C T' ≡ VALID P =
+    ap₂ (λ (i : ℕ) (S : List ℕ). OCB-DECRYPT K i N A S) tag-long whole ∙ decrypt-encrypt cipher t N A (sizes .tag-size .most) first P P-bytes in
+    let left : Leaves (verdict (VALID P) (inputs K N A C T') C T') q P' T'' =
+    subst₂ (λ (n : ℕ) (D : Plaintext). Leaves (unless n C T' (verdict D (inputs K N A C T') C T')) q P' T'') asks valid M in
+    (left .number, left .text-left)
+
+-- ---- The promises admit one answer
+
+pub set-up-single : (k : List ℕ) (m : ℕ) (u v : SetUp) → u ≡ setUp k m → v ≡ setUp k m → u ≡ v
+set-up-single k m u v p q = p ∙ sym q
+
+single : (o : Outcome) (r q : Answer) {S T S' T' : List ℕ} → Leaves o r S T → Leaves o q S' T' → (r ≡ q) × (S ≡ S') × (T ≡ T')
+single o r q L M = (
+  λ i. record { number = (L .number ∙ sym (M .number)) i; calls = (L .calls ∙ sym (M .calls)) i },
+  L .text-left ∙ sym (M .text-left),
+  L .tag-left ∙ sym (M .tag-left),
+)
+
+pub seal-single : (s : State) (N A S T : List ℕ) (r q : Answer) {S₁ T₁ S₂ T₂ : List ℕ}
+    → Leaves (sealed s N A S T) r S₁ T₁ → Leaves (sealed s N A S T) q S₂ T₂ → (r ≡ q) × (S₁ ≡ S₂) × (T₁ ≡ T₂)
+seal-single s N A S T r q L M = single (sealed s N A S T) r q L M
+
+pub open-single : (s : State) (N A S T : List ℕ) (r q : Answer) {S₁ T₁ S₂ T₂ : List ℕ}
+    → Leaves (opened s N A S T) r S₁ T₁ → Leaves (opened s N A S T) q S₂ T₂ → (r ≡ q) × (S₁ ≡ S₂) × (T₁ ≡ T₂)
+open-single s N A S T r q L M = single (opened s N A S T) r q L M

@@ -1,0 +1,5 @@
+pub mod Refusals
+pub mod AesKey
+pub mod Outcomes
+pub mod MadeState
+pub mod Demands

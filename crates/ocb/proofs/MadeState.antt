@@ -1,0 +1,56 @@
+-- What set_up, seal and open give for a state made from a key, said over that key alone: the state holds the key as far as its table goes, and sizes in
+-- range ask for no more of it. Assumes nothing.
+use mathlib.Core.Path.{_≡_, refl, sym, ap, ap₂, _∙_}
+use mathlib.Core.List.{List}
+use Prim.Native.Nat.{ℕ, zero, suc}
+use native.Mathlib.Omega.{arith}
+use lib.ListN.{length, take, drop}
+use Rattle.standards.specs.Fips197.{keyExpansion}
+use Rattle.standards.specs.Rfc7253.{Plaintext}
+use Rattle.standards.specs.AesOcb.{AES-128}
+use Rattle.ocb_laws.proofs.Agree.{encrypt-agrees, encrypt-inputs-agree, decrypt-agrees, decrypt-inputs-agree}
+use Rattle.ocb_variables.specs.declared.State.{State}
+use Rattle.ocb_variables.specs.State.{stateOf}
+use Rattle.ocb_variables.specs.Held.{held}
+use Rattle.ocb.specs.declared.SetUp.{SetUp}
+use Rattle.ocb.specs.Answers.{setUpNumber, refusedSetUp, madeUnless, setUp, refusal, Outcome, unless, encrypted, verdict, decrypted, sealed, opened}
+use Rattle.ocb.specs.Terms.{MadeFrom, InRange}
+use Rattle.ocb.proofs.Refusals.{admits}
+use Rattle.ocb.proofs.AesKey.{state-holds}
+
+made-state : {k : List ℕ} {m : ℕ} {u : SetUp} → MadeFrom k m u → u .state ≡ stateOf (keyExpansion 4 10 k) m
+unfolding setUp refusedSetUp
+made-state {k} {m} {u} made = ap (λ (v : SetUp). v .state) (made .promise) ∙ go (setUpNumber k m) (sym (ap (λ (v : SetUp). v .number) (made .promise)) ∙ made .accepted)
+  where
+    s : State
+    s = stateOf (keyExpansion 4 10 k) m
+
+    go : (n : ℕ) → madeUnless n s .number ≡ 0 → madeUnless n s .state ≡ s
+    go zero e = refl
+    go (suc n) e = absurd (omega arith)
+
+module _ {k : List ℕ} {m : ℕ} {u : SetUp} (made : MadeFrom k m u) (N A S T : List ℕ)
+    (sizes : InRange m (length N) (length T) (length S) (length A)) where
+  s : State
+  s = stateOf (keyExpansion 4 10 k) m
+
+  no-refusal : {o : Outcome} → unless (refusal m (length N) (length T) (length S) (length A)) S T o ≡ o
+  no-refusal {o} = ap (λ (n : ℕ). unless n S T o) (admits m (length N) (length T) (length S) (length A) sizes)
+
+  pub seal-is : sealed (u .state) N A S T ≡ encrypted (AES-128 k) N A S T
+  unfolding sealed stateOf s
+  seal-is =
+      ap (λ (v : State). sealed v N A S T) (made-state made)
+      ∙ no-refusal
+      ∙ ap₂ (λ (E : List ℕ) (I : List (List ℕ)). record { number = 0; calls = length I; text = take (length S) E; tag = drop (length S) E })
+      (encrypt-agrees m (held s) (AES-128 k) (state-holds k m) (length T) N A (sizes .ad-size) S (sizes .text-size))
+      (encrypt-inputs-agree m (held s) (AES-128 k) (state-holds k m) (length T) N A (sizes .ad-size) S (sizes .text-size))
+
+  pub open-is : opened (u .state) N A S T ≡ decrypted (AES-128 k) N A S T
+  unfolding opened stateOf s
+  open-is =
+      ap (λ (v : State). opened v N A S T) (made-state made)
+      ∙ no-refusal
+      ∙ ap₂ (λ (D : Plaintext) (I : List (List ℕ)). verdict D (length I) S T)
+      (decrypt-agrees m (held s) (AES-128 k) (state-holds k m) (length T) N A (sizes .ad-size) S T (sizes .text-size) refl)
+      (decrypt-inputs-agree m (held s) (AES-128 k) (state-holds k m) (length T) N A (sizes .ad-size) S T (sizes .text-size) refl)

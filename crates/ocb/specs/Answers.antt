@@ -1,0 +1,116 @@
+-- What set_up, seal and open answer and leave, for every input: the product's table of numbers, over RFC 7253 as a state holds its key.
+use mathlib.Core.Path.{_≡_}
+use mathlib.Core.Bool.{Bool, true, false, not, _||_}
+use mathlib.Core.List.{List, [], _∷_, _++_}
+use Prim.Native.Nat.{ℕ, zero, suc, _+_, _^_}
+use lib.Dec.{eqb, ltb, leb}
+use lib.ListN.{length, take, drop}
+use Rattle.standards.specs.Strings.{zeros}
+use Rattle.standards.specs.Fips197.{keyExpansion}
+use Rattle.standards.specs.Rfc7253.{Key, Plaintext, VALID, INVALID, OCB-ENCRYPT, OCB-ENCRYPT-inputs, OCB-DECRYPT, OCB-DECRYPT-inputs}
+use Rattle.ocb_variables.specs.declared.State.{State}
+use Rattle.ocb_variables.specs.Held.{held}
+use Rattle.ocb_variables.specs.State.{stateOf}
+use Rattle.ocb.specs.declared.SetUp.{SetUp}
+use Rattle.ocb.specs.declared.Answer.{Answer}
+
+-- ---- The numbers: each with the test that gives it. The smallest that applies is given, 0 where none does.
+
+pub record Rule : Type 0 where
+  pub number : ℕ
+  pub applies : Bool
+
+infix 50 _if_
+abbrev pub _if_ : ℕ → Bool → Rule
+n if test = record { number = n; applies = test }
+
+abbrev pub choose : Bool → ℕ → ℕ → ℕ
+choose true a b = a
+choose false a b = b
+
+-- the first rule that applies; the rules stand in the order of their numbers
+abbrev pub first : List Rule → ℕ
+first [] = 0
+first (rule ∷ rules) = choose (rule .applies) (rule .number) (first rules)
+
+-- n is not in least..most
+abbrev pub outside : ℕ → ℕ → ℕ → Bool
+outside least most n = ltb n least || ltb most n
+
+-- texts and data are shorter than this many bytes
+abbrev pub limit : ℕ → ℕ
+limit m = 2 ^ (m + 4)
+
+unfoldable pub setUpNumber : List ℕ → ℕ → ℕ
+setUpNumber key m = first ((1 if not (eqb (length key) 16)) ∷ (2 if outside 1 26 m) ∷ [])
+
+-- of seal and open alike, by the sizes of nonce, tag, text and associated data
+unfoldable pub refusal : ℕ → ℕ → ℕ → ℕ → ℕ → ℕ
+refusal m nonce tag text ad =
+    first
+    ((2 if outside 1 26 m)
+    ∷ (3 if outside 6 15 nonce)
+    ∷ (4 if outside 1 16 tag)
+    ∷ (5 if leb (limit m) text)
+    ∷ (6 if leb (limit m) ad)
+    ∷ [])
+
+-- ---- set_up
+
+-- zeros, and m = 0, which seal and open answer with 2
+unfoldable pub refusedSetUp : ℕ → SetUp
+refusedSetUp n = record {
+  number = n;
+  state = record { «round_keys» = zeros 176; star = zeros 16; dollar = zeros 16; m = 0; table = zeros 416 };
+}
+
+abbrev pub madeUnless : ℕ → State → SetUp
+madeUnless zero state = record { number = 0; state = state }
+madeUnless (suc n) state = refusedSetUp (suc n)
+
+-- AES-128: four words, ten rounds
+unfoldable pub setUp : List ℕ → ℕ → SetUp
+setUp key m = madeUnless (setUpNumber key m) (stateOf (keyExpansion 4 10 key) m)
+
+-- ---- seal and open: the number, the count of cipher calls, and the text and the tag as they stand afterwards
+
+pub record Outcome : Type 0 where
+  pub number : ℕ
+  pub calls : ℕ
+  pub text : List ℕ
+  pub tag : List ℕ
+
+-- a refusal by number changes nothing and calls nothing
+abbrev pub unless : ℕ → List ℕ → List ℕ → Outcome → Outcome
+unless zero text tag done = done
+unless (suc n) text tag done = record { number = suc n; calls = 0; text = text; tag = tag }
+
+-- by RFC 7253 under a key K, with a nonce N, associated data A, a text P and a tag place T: the ciphertext and the tag, each in its place
+abbrev pub encrypted : Key → List ℕ → List ℕ → List ℕ → List ℕ → Outcome
+encrypted K N A P T = record {
+  number = 0;
+  calls = length (OCB-ENCRYPT-inputs K (length T) N A P);
+  text = take (length P) (OCB-ENCRYPT K (length T) N A P);
+  tag = drop (length P) (OCB-ENCRYPT K (length T) N A P);
+}
+
+-- the plaintext of a ciphertext C and its tag T, or 7 and zeros
+abbrev pub verdict : Plaintext → ℕ → List ℕ → List ℕ → Outcome
+verdict (VALID P) calls C T = record { number = 0; calls = calls; text = P; tag = T }
+verdict INVALID calls C T = record { number = 7; calls = calls; text = zeros (length C); tag = T }
+
+abbrev pub decrypted : Key → List ℕ → List ℕ → List ℕ → List ℕ → Outcome
+decrypted K N A C T = verdict (OCB-DECRYPT K (length T) N A (C ++ T)) (length (OCB-DECRYPT-inputs K (length T) N A (C ++ T))) C T
+
+unfoldable pub sealed : State → List ℕ → List ℕ → List ℕ → List ℕ → Outcome
+sealed s N A P T = unless (refusal (s .m) (length N) (length T) (length P) (length A)) P T (encrypted (held s) N A P T)
+
+unfoldable pub opened : State → List ℕ → List ℕ → List ℕ → List ℕ → Outcome
+opened s N A C T = unless (refusal (s .m) (length N) (length T) (length C) (length A)) C T (decrypted (held s) N A C T)
+
+-- THE PROMISE: the answer r, and the text and the tag that are left, are the outcome's
+pub record Leaves (o : Outcome) (r : Answer) (text tag : List ℕ) : Type 0 where
+  pub number : r .number ≡ o .number
+  pub calls : r .calls ≡ o .calls
+  pub text-left : text ≡ o .text
+  pub tag-left : tag ≡ o .tag

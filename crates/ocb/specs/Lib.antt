@@ -1,0 +1,3 @@
+pub mod Answers
+pub mod Terms
+pub mod Inner

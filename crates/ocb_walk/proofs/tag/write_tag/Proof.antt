@@ -1,0 +1,72 @@
+-- `write_tag` meets its contract. The loop's invariant: the first i bytes are the computed tag's, the others as they were.
+-- Assumes nothing.
+use mathlib.Core.Path.{_≡_, refl, ap, _∙_}
+use mathlib.Core.List.{List, _++_, append-nil}
+use Prim.Native.Nat.{ℕ, _-_, _≤_}
+use native.Mathlib.Omega.{arith}
+use borrow.Author.Needs.{needs}
+use lib.ListN.{length, take, drop, length-set, drop-of-length-le}
+use Rattle.ocb_steps.proofs.Lists.{copied-turn}
+use Rattle.ocb_walk.proofs.tag.write_tag.Statement.{statement}
+use Rattle.ocb_walk.proofs.tag.write_tag.Tie as tie
+
+abbrev Inv-loop : tie.InvT-loop
+Inv-loop place₀ computed i₀ place i =
+    (i ≤ length place₀) × (length place ≡ length place₀) × (place ≡ take i computed ++ drop i place₀) × (length computed ≡ 16)
+
+abbrev μ-loop : tie.MeasureT-loop
+μ-loop place₀ computed i₀ place i = length place₀ - i
+
+loop-holds : tie.Need-loop-holds Inv-loop μ-loop
+loop-holds c = (search needs, refl, refl, search needs)
+
+array-read-place : tie.Need-array-read-place Inv-loop μ-loop
+array-read-place c = search needs
+
+slice-write-place : tie.Need-slice-write-place Inv-loop μ-loop
+slice-write-place c = search needs
+
+add-i : tie.Need-add-i Inv-loop μ-loop
+add-i c = search needs
+
+loop-less : tie.Need-loop-less Inv-loop μ-loop
+loop-less c = search needs
+
+loop-again : tie.Need-loop-again Inv-loop μ-loop
+loop-again c =
+    let l = c .before .loop in
+    let s = c .before .before in (
+      omega arith,
+      simp length-set (l .inv .1),
+      copied-turn (s .args .t1) (s .args .place .now) (l .place) (l .i) (omega arith) (omega arith) (l .inv .2),
+      l .inv .3,
+    )
+
+same-length : tie.Need-same-length Inv-loop μ-loop
+same-length c = c .before .loop .inv .1
+
+returns : tie.Need-returns Inv-loop μ-loop
+returns c =
+    let l = c .before .loop in
+    let k : List ℕ = c .before .before .args .t1 in
+    let t : List ℕ = c .before .before .args .place .now in
+    let e : l .i ≡ length t = omega arith in
+    l .inv .2
+    ∙ ap (λ (x : List ℕ). take (l .i) k ++ x) (drop-of-length-le t {i = l .i} (omega arith))
+    ∙ append-nil (take (l .i) k)
+    ∙ ap (λ (n : ℕ). take n k) e
+
+pub write-tag-spec : {M : Type 1} → statement M
+write-tag-spec =
+    tie.close
+    (tie.spec
+    Inv-loop
+    μ-loop
+    loop-holds
+    array-read-place
+    slice-write-place
+    add-i
+    loop-less
+    loop-again
+    same-length
+    returns)
