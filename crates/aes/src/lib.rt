@@ -19,6 +19,7 @@ pub fn expand_key(key: &[u8; 16]) -> [u8; 176]
     w
 }
 
+// The cipher with the S-box lent.
 pub fn encipher_with(sbox: &[u8; 256], rk: &[u8; 176], b: [u8; 16]) -> [u8; 16]
     requires { ⌜ now sbox ≡ sboxTable ⌝ }
     ensures { λ r. ⌜ r ≡ enc 10 (now (rk .entry)) b ⌝ }
@@ -26,6 +27,7 @@ pub fn encipher_with(sbox: &[u8; 256], rk: &[u8; 176], b: [u8; 16]) -> [u8; 16]
     aes_steps::to_block(rounds::cipher(sbox, rk, 10, aes_steps::from_block(b)))
 }
 
+// The inverse cipher with the inverse S-box lent.
 pub fn decipher_with(inv: &[u8; 256], rk: &[u8; 176], b: [u8; 16]) -> [u8; 16]
     requires { ⌜ now inv ≡ invSboxTable ⌝ }
     ensures { λ r. ⌜ r ≡ dec 10 (now (rk .entry)) b ⌝ }

@@ -48,6 +48,7 @@ pub fn to_block(s: [[u8; 4]; 4]) -> [u8; 16]
     ]
 }
 
+// The table's entry at b.
 fn look_up(table: &[u8; 256], b: u8) -> u8
     requires { ⌜ length (now table) ≡ 256 ⌝ }
     ensures { λ r. ⌜ r ≡ lookUp (now (table .entry)) b ⌝ }
@@ -152,7 +153,7 @@ pub fn key_word(w: &[u8], j: usize) -> [u8; 4]
     [w[k], w[k + 1], w[k + 2], w[k + 3]]
 }
 
-// The sum of two bytes.
+// The sum of two bytes (4.1).
 fn add(a: u8, b: u8) -> u8
     ensures { λ r. ⌜ r ≡ a ⊕ b ⌝ }
 {
@@ -192,7 +193,7 @@ fn add_state(s: [[u8; 4]; 4], k: [[u8; 4]; 4]) -> [[u8; 4]; 4]
     ]
 }
 
-// Four words from 4 i on.
+// The round key of round i: four words.
 fn round_key(w: &[u8], i: usize) -> [[u8; 4]; 4]
     requires { ⌜ 16 * i + 15 < length (now w) ⌝ }
     ensures { λ r. ⌜ r ≡ roundKey (now (w .entry)) i ⌝ }
@@ -206,7 +207,7 @@ fn round_key(w: &[u8], i: usize) -> [[u8; 4]; 4]
     ]
 }
 
-// It is its own inverse.
+// AddRoundKey, which is its own inverse.
 pub fn add_round_key(s: [[u8; 4]; 4], w: &[u8], i: usize) -> [[u8; 4]; 4]
     requires { ⌜ 16 * i + 15 < length (now w) ⌝ }
     ensures { λ r. ⌜ r ≡ addRoundKey (now (w .entry)) i s ⌝ }
