@@ -9,30 +9,29 @@ use native.Mathlib.Omega.{arith}
 use lib.ListN.{length, getD, take, drop, set, length-append}
 use lib.Seq.{sets-eq, take-at, getD-take, take-suc, take-suc-set, length-take-le}
 use borrow.Author.Tests.{eq-eqb, ne-eqb, lt-ltb, le-ltb}
-use Rattle.standards.specs.Fips197.{word, addColumn}
-use Rattle.standards.specs.Fips197.{rotWord, subWord, rconWord, temp, nextWord, schedule}
+use Rattle.standards.specs.Fips197.{word, addColumn, rotWord, subWord, rconWord, temp, nextWord, schedule}
 
--- ---- a word that the code computes
-next-by : (nk : ℕ) (w : List ℕ) (i : ℕ) (p t u r : List ℕ) → p ≡ word w (i - nk) → t ≡ word w (i - 1) → u ≡ temp nk i t → r ≡ addColumn p u → r ≡ nextWord nk w i
-unfolding nextWord
-next-by nk w i p t u r hp ht hu hr = hr ∙ ap₂ addColumn hp (hu ∙ ap (temp nk i) ht)
+-- ---- the next word: what each way through the code's branches computes
 
-pub next-turned : (nk : ℕ) (w : List ℕ) (i : ℕ) (p t u r : List ℕ) → i % nk ≡ 0 → p ≡ word w (i - nk) → t ≡ word w (i - 1)
-    → u ≡ addColumn (subWord (rotWord t)) (rconWord (i / nk)) → r ≡ addColumn p u → r ≡ nextWord nk w i
-next-turned nk w i p t u r h hp ht hu = next-by nk w i p t u r hp ht (rw (eq-eqb _ _ h) hu)
+-- p and t are the two words before it that it is made of
+module _ (nk : ℕ) (w : List ℕ) (i : ℕ) (p t : List ℕ) (hp : p ≡ word w (i - nk)) (ht : t ≡ word w (i - 1)) where
+  next-by : (u r : List ℕ) → u ≡ temp nk i t → r ≡ addColumn p u → r ≡ nextWord nk w i
+  unfolding nextWord
+  next-by u r hu hr = hr ∙ ap₂ addColumn hp (hu ∙ ap (temp nk i) ht)
 
-pub next-half : (nk : ℕ) (w : List ℕ) (i : ℕ) (p t u r : List ℕ) → (i % nk ≡ 0 → ⊥) → 6 < nk → i % nk ≡ 4 → p ≡ word w (i - nk) → t ≡ word w (i - 1)
-    → u ≡ subWord t → r ≡ addColumn p u → r ≡ nextWord nk w i
-next-half nk w i p t u r h k m hp ht hu = next-by nk w i p t u r hp ht (rw (ne-eqb _ _ h, lt-ltb _ _ k, eq-eqb _ _ m) hu)
+  pub next-turned : (u r : List ℕ) → i % nk ≡ 0 → u ≡ addColumn (subWord (rotWord t)) (rconWord (i / nk)) → r ≡ addColumn p u → r ≡ nextWord nk w i
+  next-turned u r h hu = next-by u r (rw (eq-eqb _ _ h) hu)
 
-pub next-plain : (nk : ℕ) (w : List ℕ) (i : ℕ) (p t r : List ℕ) → (i % nk ≡ 0 → ⊥) → nk ≤ 6 → p ≡ word w (i - nk) → t ≡ word w (i - 1)
-    → r ≡ addColumn p t → r ≡ nextWord nk w i
-next-plain nk w i p t r h k hp ht = next-by nk w i p t t r hp ht (rw (ne-eqb _ _ h, le-ltb _ _ k))
+  pub next-substituted : (u r : List ℕ) → (i % nk ≡ 0 → ⊥) → 6 < nk → i % nk ≡ 4 → u ≡ subWord t → r ≡ addColumn p u → r ≡ nextWord nk w i
+  next-substituted u r h k m hu = next-by u r (rw (ne-eqb _ _ h, lt-ltb _ _ k, eq-eqb _ _ m) hu)
 
-pub next-other : (nk : ℕ) (w : List ℕ) (i : ℕ) (p t r : List ℕ) → (i % nk ≡ 0 → ⊥) → 6 < nk → (i % nk ≡ 4 → ⊥) → p ≡ word w (i - nk) → t ≡ word w (i - 1)
-    → r ≡ addColumn p t → r ≡ nextWord nk w i
-next-other nk w i p t r h k m hp ht = next-by nk w i p t t r hp ht (rw (ne-eqb _ _ h, lt-ltb _ _ k, ne-eqb _ _ m))
+  pub next-short : (r : List ℕ) → (i % nk ≡ 0 → ⊥) → nk ≤ 6 → r ≡ addColumn p t → r ≡ nextWord nk w i
+  next-short r h k = next-by t r (rw (ne-eqb _ _ h, le-ltb _ _ k))
 
+  pub next-long : (r : List ℕ) → (i % nk ≡ 0 → ⊥) → 6 < nk → (i % nk ≡ 4 → ⊥) → r ≡ addColumn p t → r ≡ nextWord nk w i
+  next-long r h k m = next-by t r (rw (ne-eqb _ _ h, lt-ltb _ _ k, ne-eqb _ _ m))
+
+-- the turned words take round constants 1 to 10
 pub quotient : (i nk : ℕ) → 1 ≤ nk → nk ≤ i → i < 11 * nk → (1 ≤ i / nk) × (i / nk ≤ 10)
 quotient i nk h k l = (le-div-iff-mul-le h .1 (omega arith), le-of-suc-le-suc (div-lt-iff-lt-mul h .1 l))
 

@@ -1,2 +1,3 @@
 pub mod Cipher
 pub mod Round
+pub mod Sizes

@@ -4,50 +4,12 @@ pub mod inverse; // inverse.rt: the inverse steps
 ghost use mathlib.Core.Path.{_≡_};
 ghost use Prim.Native.Nat.{_+_, _*_, _<_};
 ghost use lib.ListN.{length};
-ghost use Rattle.standards.specs.Fips197.{columns, eachByte, subBytes, shiftRows, row, mixColumn, mixColumns, word, addColumn, addState, roundKey, addRoundKey, fromBlock, toBlock};
+ghost use Rattle.standards.specs.Fips197.{columns, eachByte, subBytes, shiftRows, row, mixColumn, mixColumns, word, addColumn, addState, roundKey, addRoundKey};
 ghost use Rattle.standards.specs.Strings.{_⊕_};
 ghost use Rattle.aes_steps.specs.LookUp.{lookUp};
 ghost use Rattle.field.specs.Tables.{sboxTable};
 
-// A block fills the state column after column (3.4).
-pub fn from_block(b: [u8; 16]) -> [[u8; 4]; 4]
-    ensures { λ r. ⌜ r ≡ fromBlock b ⌝ }
-{
-    [
-        [b[0], b[1], b[2], b[3]],
-        [b[4], b[5], b[6], b[7]],
-        [b[8], b[9], b[10], b[11]],
-        [b[12], b[13], b[14], b[15]],
-    ]
-}
-
-pub fn to_block(s: [[u8; 4]; 4]) -> [u8; 16]
-    ensures { λ r. ⌜ r ≡ toBlock s ⌝ }
-{
-    let a = s[0];
-    let b = s[1];
-    let c = s[2];
-    let d = s[3];
-    [
-        a[0],
-        a[1],
-        a[2],
-        a[3],
-        b[0],
-        b[1],
-        b[2],
-        b[3],
-        c[0],
-        c[1],
-        c[2],
-        c[3],
-        d[0],
-        d[1],
-        d[2],
-        d[3],
-    ]
-}
-
+// The table's entry at b.
 fn look_up(table: &[u8; 256], b: u8) -> u8
     requires { ⌜ length (now table) ≡ 256 ⌝ }
     ensures { λ r. ⌜ r ≡ lookUp (now (table .entry)) b ⌝ }
@@ -152,7 +114,7 @@ pub fn key_word(w: &[u8], j: usize) -> [u8; 4]
     [w[k], w[k + 1], w[k + 2], w[k + 3]]
 }
 
-// The sum of two bytes.
+// The sum of two bytes (4.1).
 fn add(a: u8, b: u8) -> u8
     ensures { λ r. ⌜ r ≡ a ⊕ b ⌝ }
 {
@@ -192,7 +154,7 @@ fn add_state(s: [[u8; 4]; 4], k: [[u8; 4]; 4]) -> [[u8; 4]; 4]
     ]
 }
 
-// Four words from 4 i on.
+// The round key of round i: four words.
 fn round_key(w: &[u8], i: usize) -> [[u8; 4]; 4]
     requires { ⌜ 16 * i + 15 < length (now w) ⌝ }
     ensures { λ r. ⌜ r ≡ roundKey (now (w .entry)) i ⌝ }
@@ -206,7 +168,7 @@ fn round_key(w: &[u8], i: usize) -> [[u8; 4]; 4]
     ]
 }
 
-// It is its own inverse.
+// AddRoundKey, which is its own inverse.
 pub fn add_round_key(s: [[u8; 4]; 4], w: &[u8], i: usize) -> [[u8; 4]; 4]
     requires { ⌜ 16 * i + 15 < length (now w) ⌝ }
     ensures { λ r. ⌜ r ≡ addRoundKey (now (w .entry)) i s ⌝ }

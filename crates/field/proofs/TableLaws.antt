@@ -32,6 +32,3 @@ sbox-length = ap length sbox-table-is ∙ size 256 sbox
 
 pub inv-sbox-length : length invSboxTable ≡ 256
 inv-sbox-length = ap length inv-sbox-table-is ∙ size 256 invSbox
-
-pub rcon-length : length rconTable ≡ 10
-rcon-length = ap length rcon-table-is ∙ size 10 rcon

@@ -1,4 +1,4 @@
--- `aes::expand_key` meets its contract: 44 words are 4 (10 + 1).
+-- `aes::expand_key` meets its contract: 4 words and 40 more are the 44 words of ten rounds.
 -- Assumes nothing.
 use Rattle.standards.specs.Fips197.{keyExpansion}
 use borrow.Author.Needs.{needs}

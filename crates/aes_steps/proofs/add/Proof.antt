@@ -1,4 +1,4 @@
--- `aes_steps::add` meets its contract.
+-- `aes_steps::add` meets its contract: the sum is exclusive or.
 -- Assumes nothing.
 use mathlib.Core.Path.{refl}
 use Rattle.standards.specs.Strings.{_⊕_}

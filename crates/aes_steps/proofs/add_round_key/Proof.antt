@@ -1,3 +1,5 @@
+-- `aes_steps::add_round_key` meets its contract: the sum with the round key.
+-- Assumes nothing.
 use mathlib.Core.Path.{ap, _∙_}
 use Rattle.standards.specs.Fips197.{addState}
 use borrow.Author.Needs.{needs}

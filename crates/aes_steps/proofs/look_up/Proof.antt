@@ -1,4 +1,4 @@
--- `aes_steps::look_up` meets its contract: it is the table's entry.
+-- `aes_steps::look_up` meets its contract: the table's entry, by definition.
 -- Assumes nothing.
 use mathlib.Core.Path.{refl}
 use borrow.Author.Needs.{needs}

@@ -1,3 +1,5 @@
+-- `aes_steps::mix` meets its contract: the row of the matrix by doublings.
+-- Assumes nothing.
 use Rattle.standards.specs.Strings.{_⊕_}
 use Rattle.aes_steps.proofs.MixLaws.{mix-row}
 use borrow.Author.Needs.{needs}

@@ -1,7 +1,7 @@
 -- `aes::key::next_word` meets its contract: the three branches are the three cases of `temp`.
 -- Assumes nothing.
 use mathlib.Core.Logic.{⊎-elim}
-use Rattle.aes.proofs.KeyLaws.{quotient, next-turned, next-half, next-plain, next-other}
+use Rattle.aes.proofs.KeyLaws.{quotient, next-turned, next-substituted, next-short, next-long}
 use borrow.Author.Needs.{needs}
 use Rattle.aes.proofs.key.next_word.Statement.{statement}
 use Rattle.aes.proofs.key.next_word.Tie as tie
@@ -36,7 +36,7 @@ add-column-requires c κs = search needs
 returns : tie.Need-returns
 returns c =
     let k = c .before .before .before in
-    next-turned _ _ _ _ _ _ _ (c .before .before .if1 .taken) (k .before .key-word .ensures) (k .key-word2 .ensures) (c .before .turned .ensures) (c .add-column .ensures)
+    next-turned _ _ _ _ _ (k .before .key-word .ensures) (k .key-word2 .ensures) _ _ (c .before .before .if1 .taken) (c .before .turned .ensures) (c .add-column .ensures)
 
 rem-if3 : tie.Need-rem-if3
 rem-if3 c = search needs
@@ -50,8 +50,8 @@ add-column-requires-2 c κs = search needs
 returns-2 : tie.Need-returns-2
 returns-2 c =
     let k = c .before .before .before .before .before in
-    next-half _ _ _ _ _ _ _ (c .before .before .before .before .if1 .left) (c .before .before .before .if2 .taken) (c .before .before .if3 .taken)
-    (k .before .key-word .ensures) (k .key-word2 .ensures) (c .before .sub-word .ensures) (c .add-column2 .ensures)
+    next-substituted _ _ _ _ _ (k .before .key-word .ensures) (k .key-word2 .ensures) _ _ (c .before .before .before .before .if1 .left)
+    (c .before .before .before .if2 .taken) (c .before .before .if3 .taken) (c .before .sub-word .ensures) (c .add-column2 .ensures)
 
 add-column-requires-3 : tie.Need-add-column-requires-3
 add-column-requires-3 c κs = search needs
@@ -61,8 +61,8 @@ returns-3 c =
     let k = c .before .before .before in
     let h = c .before .before .if1 .left in
     ⊎-elim
-    (λ w. next-other _ _ _ _ _ _ h (w .0 .taken) (w .1 .left) (k .before .key-word .ensures) (k .key-word2 .ensures) (c .add-column3 .ensures))
-    (λ w. next-plain _ _ _ _ _ _ h (w .left) (k .before .key-word .ensures) (k .key-word2 .ensures) (c .add-column3 .ensures))
+    (λ v. next-long _ _ _ _ _ (k .before .key-word .ensures) (k .key-word2 .ensures) _ h (v .0 .taken) (v .1 .left) (c .add-column3 .ensures))
+    (λ v. next-short _ _ _ _ _ (k .before .key-word .ensures) (k .key-word2 .ensures) _ h (v .left) (c .add-column3 .ensures))
     (c .before .if2 .came)
 
 pub next-word-spec : {M : Type 1} → statement M

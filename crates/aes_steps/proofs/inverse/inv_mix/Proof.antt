@@ -1,3 +1,5 @@
+-- `aes_steps::inverse::inv_mix` meets its contract: the row of the matrix by repeated doublings.
+-- Assumes nothing.
 use Rattle.standards.specs.Strings.{_⊕_}
 use Rattle.aes_steps.proofs.MixLaws.{inv-mix-row}
 use borrow.Author.Needs.{needs}
