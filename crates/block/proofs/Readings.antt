@@ -102,12 +102,6 @@ as-digits S h =
     sym (digits-number 2 two-positive (bits S) (bits-digits S))
     ∙ ap₂ (digits 2) (bits-length S) (bits-number S h)
 
-pub bytes-bits : (S : List ℕ) → Bytes S → bytes (bits S) ≡ S
-unfolding bytes
-bytes-bits S h =
-    let e : length (bits S) / 8 ≡ length S = omega (arith, bits-length S) in
-    ap₂ toBytes e (bits-number S h) ∙ digits-number 256 byte-positive S h
-
 -- ---- parts of the bits
 
 -- the digits behind the first i, of those above the last k

@@ -146,5 +146,6 @@ bytes-xor (x ∷ a) (y ∷ b) ha hb (suc i) = bytes-xor a b (λ j. ha (suc j)) (
 pub block-zeros : Block (replicate 16 0)
 block-zeros = record { size = refl; bytes = bytes-zeros 16 }
 
-pub block-xor : (a b : List ℕ) → Block a → Block b → Block (a xor b)
-block-xor a b ha hb = record { size = xor-length a b ∙ ha .size; bytes = bytes-xor a b (ha .bytes) (hb .bytes) }
+-- a block and any bytes
+pub block-xor : (a b : List ℕ) → Block a → Bytes b → Block (a xor b)
+block-xor a b ha hb = record { size = xor-length a b ∙ ha .size; bytes = bytes-xor a b (ha .bytes) hb }

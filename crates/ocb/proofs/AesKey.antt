@@ -2,11 +2,11 @@
 -- its table goes. Here alone the cipher is named as FIPS 197's. Assumes nothing.
 use mathlib.Core.Path.{_≡_, ap₂, subst}
 use mathlib.Core.List.{List}
-use Prim.Native.Nat.{ℕ, _*_}
+use Prim.Native.Nat.{ℕ, suc, _*_}
 use lib.ListN.{length, drop}
 use Rattle.standards.specs.Strings.{zeros, Bytes, Block}
 use Rattle.standards.specs.Fips197.{keyExpansion}
-use Rattle.standards.specs.Rfc7253.{Key, keyed, double, blockAt, Offset-0}
+use Rattle.standards.specs.Rfc7253.{Key, keyed, double, doubled, blockAt, Offset-0}
 use Rattle.standards.specs.AesOcb.{AES-128}
 use Rattle.block.proofs.StringLaws.{bytes-take, bytes-drop, block-zeros}
 use Rattle.block.proofs.Readings.{offset-same}
@@ -21,24 +21,33 @@ use Rattle.ocb_variables.specs.Held.{held}
 use Rattle.ocb_variables.specs.State.{stateOf}
 use Rattle.ocb_variables.proofs.BlockLaws.{double-block, doubled-block, initial-offset-block}
 use Rattle.ocb_variables.proofs.KeyLaws.{state-agrees}
-use Rattle.ocb.specs.Terms.{Inside, HoldsBytes}
+use Rattle.ocb_numbers.specs.Numbers.{Inside}
+use Rattle.ocb.specs.Terms.{HoldsBytes}
 
--- the key of round keys w, by doubling
+-- ten rounds under round keys w, with any L values that are bytes
+cipher-under : (w star dollar : List ℕ) (L : ℕ → List ℕ) → Bytes w → Bytes star → Bytes dollar → ((i : ℕ) → Bytes (L i))
+    → Cipher (record { ENCIPHER = enc 10 w; DECIPHER = dec 10 w; L-* = star; L-$ = dollar; L = L })
+cipher-under w star dollar L h hs hd hl = record {
+  enc-block = λ b. enc-block 10 w b h;
+  dec-block = λ b. dec-block 10 w b h;
+  dec-enc = λ b. dec-enc 10 w b h;
+  enc-dec = λ b. enc-dec 10 w b h;
+  star = hs;
+  dollar = hd;
+  table = hl;
+}
+
+-- ---- the key of round keys w, by doubling
+
 abbrev keyOf : List ℕ → Key
 keyOf w = keyed (enc 10 w) (dec 10 w)
 
 key-cipher : (w : List ℕ) → Bytes w → Cipher (keyOf w)
 key-cipher w h =
     let star : List ℕ = enc 10 w (zeros 16) in
-    record {
-      enc-block = λ b. enc-block 10 w b h;
-      dec-block = λ b. dec-block 10 w b h;
-      dec-enc = λ b. dec-enc 10 w b h;
-      enc-dec = λ b. enc-dec 10 w b h;
-      star = enc-block 10 w (zeros 16) h block-zeros .bytes;
-      dollar = double-block star .bytes;
-      table = λ i. doubled-block i (double star) .bytes;
-    }
+    let dollar : List ℕ = double star in
+    cipher-under w star dollar (λ i. doubled (suc i) dollar) h (enc-block 10 w (zeros 16) h block-zeros .bytes) (double-block star .bytes)
+    (λ i. doubled-block i dollar .bytes)
 
 -- the cipher under expanded round keys is FIPS 197's
 fips : (k : List ℕ) → keyOf (keyExpansion 4 10 k) ≡ AES-128 k
@@ -57,17 +66,10 @@ pub first-block : (K : Key) → Cipher K → (t : ℕ) (N : List ℕ) → Inside
 first-block K C t N n i h =
     subst Block (offset-same t N (n .least) (n .most) (i .least) (i .most) h K (C .enc-block)) (initial-offset-block K t N)
 
--- the key that any state holds, whoever made it
+-- ---- the key that any state holds, whoever made it
+
 pub held-cipher : (s : State) → HoldsBytes s → Cipher (held s)
 unfolding blockAt
 held-cipher s h =
-    let w : List ℕ = s .«round_keys» in
-    record {
-      enc-block = λ b. enc-block 10 w b (h .keys);
-      dec-block = λ b. dec-block 10 w b (h .keys);
-      dec-enc = λ b. dec-enc 10 w b (h .keys);
-      enc-dec = λ b. enc-dec 10 w b (h .keys);
-      star = h .star;
-      dollar = h .dollar;
-      table = λ i. bytes-take 16 (drop (i * 16) (s .table)) (bytes-drop (i * 16) (s .table) (h .table));
-    }
+    cipher-under (s .«round_keys») (s .star) (s .dollar) (λ i. blockAt (s .table) i) (h .keys) (h .star) (h .dollar)
+    (λ i. bytes-take 16 (drop (i * 16) (s .table)) (bytes-drop (i * 16) (s .table) (h .table)))

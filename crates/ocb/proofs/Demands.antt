@@ -20,9 +20,11 @@ use Rattle.ocb_variables.specs.Held.{held}
 use Rattle.ocb_variables.specs.State.{stateOf}
 use Rattle.ocb.specs.declared.SetUp.{SetUp}
 use Rattle.ocb.specs.declared.Answer.{Answer}
-use Rattle.ocb.specs.Answers.{setUpNumber, refusedSetUp, madeUnless, setUp, refusal, Outcome, unless, encrypted, verdict, decrypted, sealed, opened, Leaves}
-use Rattle.ocb.specs.Terms.{MadeFrom, InRange, Encrypts, Told, HoldsBytes}
-use Rattle.ocb.proofs.Refusals.{refused-2, in-range, refusal-most}
+use Rattle.ocb_numbers.specs.Numbers.{setUpNumber, refusal}
+use Rattle.ocb.specs.Answers.{refusedSetUp, madeUnless, setUp, Outcome, unless, encrypted, verdict, decrypted, sealed, opened, Leaves}
+use Rattle.ocb_numbers.specs.Numbers.{InRange}
+use Rattle.ocb.specs.Terms.{MadeFrom, Encrypts, Told, HoldsBytes}
+use Rattle.ocb_numbers.proofs.Refusals.{refused-2, in-range, refusal-most}
 use Rattle.ocb.proofs.AesKey.{aes-cipher, held-cipher, first-block}
 use Rattle.ocb.proofs.MadeState.{seal-is, open-is}
 
@@ -81,7 +83,7 @@ pub refused-forever : (k : List ℕ) (m : ℕ) (u : SetUp) → u ≡ setUp k m �
 unfolding setUp
 refused-forever k m u e h nonce tag text ad =
     ap (λ (v : SetUp). refusal (v .state .m) nonce tag text ad) e
-    ∙ never (setUpNumber k m) (stateOf (keyExpansion 4 10 k) m) (λ z. h (ap (λ (v : SetUp). v .number) e ∙ z)) nonce tag text ad
+    ∙ never (setUpNumber (length k) m) (stateOf (keyExpansion 4 10 k) m) (λ z. h (ap (λ (v : SetUp). v .number) e ∙ z)) nonce tag text ad
 
 -- ---- Demand 2: what seal and open do is RFC 7253's, over AES of FIPS 197
 

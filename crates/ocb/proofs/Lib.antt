@@ -1,4 +1,3 @@
-pub mod Refusals
 pub mod AesKey
 pub mod Outcomes
 pub mod MadeState

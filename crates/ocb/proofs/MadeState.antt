@@ -13,14 +13,16 @@ use Rattle.ocb_variables.specs.declared.State.{State}
 use Rattle.ocb_variables.specs.State.{stateOf}
 use Rattle.ocb_variables.specs.Held.{held}
 use Rattle.ocb.specs.declared.SetUp.{SetUp}
-use Rattle.ocb.specs.Answers.{setUpNumber, refusedSetUp, madeUnless, setUp, refusal, Outcome, unless, encrypted, verdict, decrypted, sealed, opened}
-use Rattle.ocb.specs.Terms.{MadeFrom, InRange}
-use Rattle.ocb.proofs.Refusals.{admits}
+use Rattle.ocb_numbers.specs.Numbers.{setUpNumber, refusal}
+use Rattle.ocb.specs.Answers.{refusedSetUp, madeUnless, setUp, Outcome, unless, encrypted, verdict, decrypted, sealed, opened}
+use Rattle.ocb_numbers.specs.Numbers.{InRange}
+use Rattle.ocb.specs.Terms.{MadeFrom}
+use Rattle.ocb_numbers.proofs.Refusals.{admits}
 use Rattle.ocb.proofs.AesKey.{state-holds}
 
 made-state : {k : List ℕ} {m : ℕ} {u : SetUp} → MadeFrom k m u → u .state ≡ stateOf (keyExpansion 4 10 k) m
 unfolding setUp refusedSetUp
-made-state {k} {m} {u} made = ap (λ (v : SetUp). v .state) (made .promise) ∙ go (setUpNumber k m) (sym (ap (λ (v : SetUp). v .number) (made .promise)) ∙ made .accepted)
+made-state {k} {m} {u} made = ap (λ (v : SetUp). v .state) (made .promise) ∙ go (setUpNumber (length k) m) (sym (ap (λ (v : SetUp). v .number) (made .promise)) ∙ made .accepted)
   where
     s : State
     s = stateOf (keyExpansion 4 10 k) m

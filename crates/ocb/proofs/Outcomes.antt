@@ -18,10 +18,11 @@ use Rattle.ocb_variables.specs.Held.{held}
 use Rattle.ocb_steps.specs.declared.Run.{Run}
 use Rattle.ocb_walk.specs.Walked.{Walked}
 use Rattle.ocb.specs.declared.Answer.{Answer}
-use Rattle.ocb.specs.Answers.{refusal, Outcome, unless, encrypted, verdict, decrypted, sealed, opened, Leaves}
-use Rattle.ocb.specs.Terms.{InRange}
+use Rattle.ocb_numbers.specs.Numbers.{refusal}
+use Rattle.ocb.specs.Answers.{Outcome, unless, encrypted, verdict, decrypted, sealed, opened, Leaves}
+use Rattle.ocb_numbers.specs.Numbers.{InRange}
 use Rattle.ocb.specs.Inner.{Encrypted, Decrypted}
-use Rattle.ocb.proofs.Refusals.{in-range}
+use Rattle.ocb_numbers.proofs.Refusals.{in-range}
 
 -- ---- the inner functions: o is the first offset, r the run behind the last block, full the whole tag
 

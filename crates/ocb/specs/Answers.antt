@@ -1,59 +1,17 @@
 -- What set_up, seal and open answer and leave, for every input: the product's table of numbers, over RFC 7253 as a state holds its key.
 use mathlib.Core.Path.{_≡_}
-use mathlib.Core.Bool.{Bool, true, false, not, _||_}
-use mathlib.Core.List.{List, [], _∷_, _++_}
-use Prim.Native.Nat.{ℕ, zero, suc, _+_, _^_}
-use lib.Dec.{eqb, ltb, leb}
+use mathlib.Core.List.{List, _++_}
+use Prim.Native.Nat.{ℕ, zero, suc}
 use lib.ListN.{length, take, drop}
 use Rattle.standards.specs.Strings.{zeros}
 use Rattle.standards.specs.Fips197.{keyExpansion}
 use Rattle.standards.specs.Rfc7253.{Key, Plaintext, VALID, INVALID, OCB-ENCRYPT, OCB-ENCRYPT-inputs, OCB-DECRYPT, OCB-DECRYPT-inputs}
+use Rattle.ocb_numbers.specs.Numbers.{setUpNumber, refusal}
 use Rattle.ocb_variables.specs.declared.State.{State}
 use Rattle.ocb_variables.specs.Held.{held}
 use Rattle.ocb_variables.specs.State.{stateOf}
 use Rattle.ocb.specs.declared.SetUp.{SetUp}
 use Rattle.ocb.specs.declared.Answer.{Answer}
-
--- ---- The numbers: each with the test that gives it. The smallest that applies is given, 0 where none does.
-
-pub record Rule : Type 0 where
-  pub number : ℕ
-  pub applies : Bool
-
-infix 50 _if_
-abbrev pub _if_ : ℕ → Bool → Rule
-n if test = record { number = n; applies = test }
-
-abbrev pub choose : Bool → ℕ → ℕ → ℕ
-choose true a b = a
-choose false a b = b
-
--- the first rule that applies; the rules stand in the order of their numbers
-abbrev pub first : List Rule → ℕ
-first [] = 0
-first (rule ∷ rules) = choose (rule .applies) (rule .number) (first rules)
-
--- n is not in least..most
-abbrev pub outside : ℕ → ℕ → ℕ → Bool
-outside least most n = ltb n least || ltb most n
-
--- texts and data are shorter than this many bytes
-abbrev pub limit : ℕ → ℕ
-limit m = 2 ^ (m + 4)
-
-unfoldable pub setUpNumber : List ℕ → ℕ → ℕ
-setUpNumber key m = first ((1 if not (eqb (length key) 16)) ∷ (2 if outside 1 26 m) ∷ [])
-
--- of seal and open alike, by the sizes of nonce, tag, text and associated data
-unfoldable pub refusal : ℕ → ℕ → ℕ → ℕ → ℕ → ℕ
-refusal m nonce tag text ad =
-    first
-    ((2 if outside 1 26 m)
-    ∷ (3 if outside 6 15 nonce)
-    ∷ (4 if outside 1 16 tag)
-    ∷ (5 if leb (limit m) text)
-    ∷ (6 if leb (limit m) ad)
-    ∷ [])
 
 -- ---- set_up
 
@@ -70,7 +28,7 @@ madeUnless (suc n) state = refusedSetUp (suc n)
 
 -- AES-128: four words, ten rounds
 unfoldable pub setUp : List ℕ → ℕ → SetUp
-setUp key m = madeUnless (setUpNumber key m) (stateOf (keyExpansion 4 10 key) m)
+setUp key m = madeUnless (setUpNumber (length key) m) (stateOf (keyExpansion 4 10 key) m)
 
 -- ---- seal and open: the number, the count of cipher calls, and the text and the tag as they stand afterwards
 

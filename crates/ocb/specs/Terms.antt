@@ -1,7 +1,7 @@
 -- The words in which the demands are said (proofs/Demands.antt), over RFC 7253 and FIPS 197 alone.
 use mathlib.Core.Path.{_≡_}
 use mathlib.Core.List.{List, _++_}
-use Prim.Native.Nat.{ℕ, _<_, _≤_}
+use Prim.Native.Nat.{ℕ}
 use lib.ListN.{length}
 use Rattle.standards.specs.Strings.{zeros, Bytes}
 use Rattle.standards.specs.Rfc7253.{Plaintext, VALID, INVALID, OCB-ENCRYPT}
@@ -9,26 +9,13 @@ use Rattle.standards.specs.AesOcb.{AES-128}
 use Rattle.ocb_variables.specs.declared.State.{State}
 use Rattle.ocb.specs.declared.SetUp.{SetUp}
 use Rattle.ocb.specs.declared.Answer.{Answer}
-use Rattle.ocb.specs.Answers.{limit, setUp}
+use Rattle.ocb.specs.Answers.{setUp}
 
 -- u is what set_up answers for the key k and m places, and it is not refused: its state is made from that key
 pub record MadeFrom (k : List ℕ) (m : ℕ) (u : SetUp) : Type 0 where
   pub promise : u ≡ setUp k m
   pub accepted : u .number ≡ 0
   pub key-bytes : Bytes k
-
--- n is in a..b
-pub record Inside (a b n : ℕ) : Type 0 where
-  pub least : a ≤ n
-  pub most : n ≤ b
-
--- the sizes of nonce, tag, text and associated data that are admitted with m places
-pub record InRange (m nonce tag text ad : ℕ) : Type 0 where
-  pub places : Inside 1 26 m
-  pub nonce-size : Inside 6 15 nonce
-  pub tag-size : Inside 1 16 tag
-  pub text-size : text < limit m
-  pub ad-size : ad < limit m
 
 -- P is a plaintext of bytes that RFC 7253 over AES-128 with the key k encrypts, under the nonce N, the associated data A and a tag as long as T,
 -- to just the ciphertext C and the tag T

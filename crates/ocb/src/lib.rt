@@ -2,9 +2,8 @@
 // and what follows from it for states made from a key in specs/Demands.antt.
 use ocb_variables::State;
 ghost use mathlib.Core.Path.{_≡_};
-ghost use Prim.Native.Nat.{_+_, _/_, _^_, _<_};
-ghost use Rattle.ocb.specs.Answers.{outside, refusedSetUp, setUp, refusal, sealed, opened, Leaves};
-ghost use Rattle.ocb.specs.Terms.{InRange};
+ghost use Rattle.ocb.specs.Answers.{refusedSetUp, setUp, sealed, opened, Leaves};
+ghost use Rattle.ocb_numbers.specs.Numbers.{InRange};
 ghost use Rattle.ocb.specs.Inner.{Encrypted, Decrypted};
 ghost use Rattle.ocb_variables.specs.Held.{stateKey};
 ghost use lib.ListN.{length};
@@ -19,16 +18,6 @@ pub struct SetUp {
 pub struct Answer {
     pub number: usize,
     pub calls: usize,
-}
-
-// n is not in least..most.
-fn outside(n: usize, least: usize, most: usize) -> bool
-    ensures { λ r. ⌜ r ≡ outside least most n ⌝ }
-{
-    if n < least {
-        return true;
-    }
-    most < n
 }
 
 // A set-up that is refused gives zeros, which seal and open answer with 2.
@@ -55,11 +44,9 @@ fn refused_set_up(number: usize) -> SetUp
 pub fn set_up(key: &[u8], m: usize) -> SetUp
     ensures { λ r. ⌜ r ≡ setUp (now (key .entry)) m ⌝ }
 {
-    if key.len() != 16 {
-        return refused_set_up(1);
-    }
-    if outside(m, 1, 26) {
-        return refused_set_up(2);
+    let number = ocb_numbers::refuse_set_up(key.len(), m);
+    if number != 0 {
+        return refused_set_up(number);
     }
     let k = block::load(key, 0);
     let sbox = field::sbox();
@@ -68,37 +55,6 @@ pub fn set_up(key: &[u8], m: usize) -> SetUp
         number: 0,
         state: state,
     }
-}
-
-// The number that the sizes ask for, 0 where they are admitted.
-fn refuse(m: usize, nonce: usize, tag: usize, text: usize, ad: usize) -> usize
-    ensures { λ r. ⌜ r ≡ refusal m nonce tag text ad ⌝ }
-{
-    if outside(m, 1, 26) {
-        return 2;
-    }
-    if outside(nonce, 6, 15) {
-        return 3;
-    }
-    if outside(tag, 1, 16) {
-        return 4;
-    }
-    let limit: usize = 1 << (m + 4);
-    if limit <= text {
-        return 5;
-    }
-    if limit <= ad {
-        return 6;
-    }
-    0
-}
-
-// How many blocks go to the cipher: each block begun of the text and of the associated data, one for the nonce and one for the tag.
-fn calls(text: usize, ad: usize) -> usize
-    requires { ⌜ (text < 2 ^ 30) × (ad < 2 ^ 30) ⌝ }
-    ensures { λ r. ⌜ r ≡ (text + 15) / 16 + (ad + 15) / 16 + 2 ⌝ }
-{
-    (text + 15) / 16 + (ad + 15) / 16 + 2
 }
 
 // Seals a text whose sizes are in range, with the parts of a state lent.
@@ -151,14 +107,14 @@ pub fn seal(s: State, nonce: &[u8], ad: &[u8], text: &mut [u8], tag: &mut [u8]) 
     ensures { λ r. ⌜ Leaves (sealed s (now (nonce .entry)) (now (ad .entry)) (now (text .entry)) (now (tag .entry))) r (now (text .exit)) (now (tag .exit)) ⌝ }
 {
     let m = s.m;
-    let number = refuse(m, nonce.len(), tag.len(), text.len(), ad.len());
+    let number = ocb_numbers::refuse(m, nonce.len(), tag.len(), text.len(), ad.len());
     if number != 0 {
         return Answer {
             number: number,
             calls: 0,
         };
     }
-    let calls = calls(text.len(), ad.len());
+    let calls = ocb_numbers::calls(text.len(), ad.len());
     let rk = s.round_keys;
     let table = s.table;
     let star = s.star;
@@ -175,14 +131,14 @@ pub fn open(s: State, nonce: &[u8], ad: &[u8], text: &mut [u8], tag: &[u8]) -> A
     ensures { λ r. ⌜ Leaves (opened s (now (nonce .entry)) (now (ad .entry)) (now (text .entry)) (now (tag .entry))) r (now (text .exit)) (now (tag .entry)) ⌝ }
 {
     let m = s.m;
-    let number = refuse(m, nonce.len(), tag.len(), text.len(), ad.len());
+    let number = ocb_numbers::refuse(m, nonce.len(), tag.len(), text.len(), ad.len());
     if number != 0 {
         return Answer {
             number: number,
             calls: 0,
         };
     }
-    let calls = calls(text.len(), ad.len());
+    let calls = ocb_numbers::calls(text.len(), ad.len());
     let rk = s.round_keys;
     let table = s.table;
     let star = s.star;

@@ -25,7 +25,7 @@ pub record Agrees (m : ℕ) (K K' : Key) : Type 0 where
 abbrev pub Fits : ℕ → List ℕ → Type 0
 Fits m S = length S < 2 ^ (m + 4)
 
-pub fits-wholes : (m : ℕ) (S : List ℕ) → Fits m S → wholes S < 2 ^ m
+fits-wholes : (m : ℕ) (S : List ℕ) → Fits m S → wholes S < 2 ^ m
 unfolding wholes
 fits-wholes m S h = let e : 2 ^ (m + 4) ≡ 2 ^ m * 16 = pow-add 2 m 4 in omega arith
 

@@ -5,16 +5,12 @@ use mathlib.Core.List.{List, [], _∷_}
 use Prim.Native.Nat.{ℕ, zero, suc, _*_, _-_, _<_, _≤_}
 use native.Mathlib.Omega.{arith}
 use lib.Dec.{lit<}
-use lib.ListN.{length, take, drop, length-append, length-drop, length-replicate}
+use lib.ListN.{length, take, drop, length-append, length-drop}
 use lib.Seq.{length-take-le}
 use Rattle.standards.specs.Strings.{_xor_, zeros, Bytes, Block}
-use Rattle.standards.specs.Rfc7253.{Key, wholes, blockAt, rest, padded, Offset, sealBlock, openBlock, hashBlock, plainBlock, Blocks, Sum, lastOffset, lastText, lastSum, lastHash, HASH, text, endOffset, sealSum, openSum, Tag}
-use Rattle.block.proofs.StringLaws.{xor-length, bytes-none, bytes-cons, bytes-zeros, bytes-append, bytes-take, bytes-drop, bytes-xor, block-zeros}
+use Rattle.standards.specs.Rfc7253.{Key, wholes, blockAt, rest, padded, Offset, sealBlock, openBlock, plainBlock, Blocks, Sum, lastOffset, lastText, lastSum, HASH, text, endOffset, sealSum, Tag}
+use Rattle.block.proofs.StringLaws.{xor-length, bytes-none, bytes-cons, bytes-zeros, bytes-append, bytes-take, bytes-drop, bytes-xor, block-zeros, block-xor}
 use Rattle.ocb_laws.proofs.Cipher.{Cipher, Makes}
-
--- a block and any bytes
-pub xor-block : (a b : List ℕ) → Block a → Bytes b → Block (a xor b)
-xor-block a b ha hb = record { size = xor-length a b ∙ ha .size; bytes = bytes-xor a b (ha .bytes) hb }
 
 -- ---- the blocks of a string
 
@@ -42,10 +38,6 @@ unfolding padded
 padded-bytes S hS =
     bytes-append S (0x80 ∷ zeros (15 - length S)) hS (bytes-cons 0x80 (zeros (15 - length S)) (lit< tt) (bytes-zeros (15 - length S)))
 
-padded-block : (S : List ℕ) → length S < 16 → Bytes S → Block (padded S)
-unfolding padded
-padded-block S h hS = record { size = simp (length-append, length-replicate) (omega arith); bytes = padded-bytes S hS }
-
 -- ---- the walks, over what makes the blocks and what goes into the sum
 
 pub last-length : (K : Key) (O S : List ℕ) → length (lastText K O S) ≡ length S
@@ -56,19 +48,15 @@ module _ {K : Key} (C : Cipher K) where
   pub offset-block : (O : List ℕ) (i : ℕ) → Block O → Block (Offset K O i)
   unfolding Offset
   offset-block O zero hO = hO
-  offset-block O (suc i) hO = xor-block (Offset K O i) (K .L _) (offset-block O i hO) (C .table _)
+  offset-block O (suc i) hO = block-xor (Offset K O i) (K .L _) (offset-block O i hO) (C .table _)
 
   pub seal-makes : Makes (sealBlock K)
   unfolding sealBlock
-  seal-makes O b hO hb = xor-block O (K .ENCIPHER (b xor O)) hO (C .enc-block (b xor O) (xor-block b O hb (hO .bytes)) .bytes)
+  seal-makes O b hO hb = block-xor O (K .ENCIPHER (b xor O)) hO (C .enc-block (b xor O) (block-xor b O hb (hO .bytes)) .bytes)
 
   pub open-makes : Makes (openBlock K)
   unfolding openBlock
-  open-makes O b hO hb = xor-block O (K .DECIPHER (b xor O)) hO (C .dec-block (b xor O) (xor-block b O hb (hO .bytes)) .bytes)
-
-  hash-makes : Makes (hashBlock K)
-  unfolding hashBlock
-  hash-makes O b hO hb = C .enc-block (b xor O) (xor-block b O hb (hO .bytes))
+  open-makes O b hO hb = block-xor O (K .DECIPHER (b xor O)) hO (C .dec-block (b xor O) (block-xor b O hb (hO .bytes)) .bytes)
 
   plain-makes : Makes plainBlock
   plain-makes O b hO hb = hb
@@ -94,7 +82,7 @@ module _ {K : Key} (C : Cipher K) where
     unfolding Sum
     sum-block g hg zero h = block-zeros
     sum-block g hg (suc i) h =
-        xor-block (Sum g K O S i) (g (Offset K O (suc i)) (blockAt S i)) (sum-block g hg i (omega arith)) (made g hg i h .bytes)
+        block-xor (Sum g K O S i) (g (Offset K O (suc i)) (blockAt S i)) (sum-block g hg i (omega arith)) (made g hg i h .bytes)
 
   -- ---- the last part
 
@@ -103,28 +91,19 @@ module _ {K : Key} (C : Cipher K) where
   last-bytes O S hO hS =
       let pad : List ℕ = K .ENCIPHER (O xor K .L-*) in
       bytes-xor S (take (length S) pad) hS
-      (bytes-take (length S) pad (C .enc-block (O xor K .L-*) (xor-block O (K .L-*) hO (C .star)) .bytes))
+      (bytes-take (length S) pad (C .enc-block (O xor K .L-*) (block-xor O (K .L-*) hO (C .star)) .bytes))
 
   last-offset-block : (O S : List ℕ) → Block O → Block (lastOffset K O S)
   unfolding lastOffset
   last-offset-block O [] hO = hO
-  last-offset-block O (x ∷ S) hO = xor-block O (K .L-*) hO (C .star)
+  last-offset-block O (x ∷ S) hO = block-xor O (K .L-*) hO (C .star)
 
   last-sum-block : (s S : List ℕ) → Block s → Bytes S → Block (lastSum s S)
   unfolding lastSum
   last-sum-block s [] hs hS = hs
-  last-sum-block s (x ∷ S) hs hS = xor-block s (padded (x ∷ S)) hs (padded-bytes (x ∷ S) hS)
+  last-sum-block s (x ∷ S) hs hS = block-xor s (padded (x ∷ S)) hs (padded-bytes (x ∷ S) hS)
 
-  last-hash-block : (O s S : List ℕ) → Block O → Block s → length S < 16 → Bytes S → Block (lastHash K O s S)
-  unfolding lastHash
-  last-hash-block O s [] hO hs l hS = hs
-  last-hash-block O s (x ∷ S) hO hs l hS =
-      let off : Block (O xor K .L-*) = xor-block O (K .L-*) hO (C .star) in
-      let input : Block (padded (x ∷ S) xor (O xor K .L-*)) =
-      xor-block (padded (x ∷ S)) (O xor K .L-*) (padded-block (x ∷ S) l hS) (off .bytes) in
-      xor-block s (K .ENCIPHER (padded (x ∷ S) xor (O xor K .L-*))) hs (C .enc-block (padded (x ∷ S) xor (O xor K .L-*)) input .bytes)
-
-  -- ---- the whole text, HASH and the tag
+  -- ---- the whole text and the tag
 
   module _ (O S : List ℕ) (hO : Block O) (hS : Bytes S) where
     pub text-length : (f : Key → List ℕ → List ℕ → List ℕ) → Makes (f K) → length (text f K O S) ≡ length S
@@ -150,30 +129,10 @@ module _ {K : Key} (C : Cipher K) where
         last-sum-block (Sum plainBlock K O S (wholes S)) (rest S)
         (sum-block O S hO hS plainBlock plain-makes (wholes S) (omega arith)) (rest-bytes S hS)
 
-    pub open-sum-block : Block (openSum K O S)
-    unfolding openSum
-    open-sum-block =
-        last-sum-block (Sum (openBlock K) K O S (wholes S)) (lastText K (Offset K O (wholes S)) (rest S))
-        (sum-block O S hO hS (openBlock K) open-makes (wholes S) (omega arith))
-        (last-bytes (Offset K O (wholes S)) (rest S) (offset-block O (wholes S) hO) (rest-bytes S hS))
-
-  pub hash-block : (A : List ℕ) → Bytes A → Block (HASH K A)
-  unfolding HASH
-  hash-block A hA =
-      last-hash-block (Offset K (zeros 16) (wholes A)) (Sum (hashBlock K) K (zeros 16) A (wholes A)) (rest A)
-      (offset-block (zeros 16) (wholes A) block-zeros)
-      (sum-block (zeros 16) A block-zeros hA (hashBlock K) hash-makes (wholes A) (omega arith))
-      (rest-short A) (rest-bytes A hA)
-
   tag-enciphered : (s O : List ℕ) → Block s → Block O → Block (K .ENCIPHER (s xor O xor K .L-$))
   tag-enciphered s O hs hO =
-      C .enc-block (s xor O xor K .L-$) (xor-block (s xor O) (K .L-$) (xor-block s O hs (hO .bytes)) (C .dollar))
+      C .enc-block (s xor O xor K .L-$) (block-xor (s xor O) (K .L-$) (block-xor s O hs (hO .bytes)) (C .dollar))
 
   pub tag-length : (s O A : List ℕ) → Block s → Block O → length (Tag K s O A) ≡ 16
   unfolding Tag
   tag-length s O A hs hO = xor-length (K .ENCIPHER (s xor O xor K .L-$)) (HASH K A) ∙ tag-enciphered s O hs hO .size
-
-  pub tag-block : (s O A : List ℕ) → Block s → Block O → Bytes A → Block (Tag K s O A)
-  unfolding Tag
-  tag-block s O A hs hO hA =
-      xor-block (K .ENCIPHER (s xor O xor K .L-$)) (HASH K A) (tag-enciphered s O hs hO) (hash-block A hA .bytes)

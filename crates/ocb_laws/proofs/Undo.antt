@@ -12,9 +12,9 @@ use lib.ListN.{length, take, drop, take-append-drop}
 use lib.Seq.{take-at, drop-at, take-add}
 use Rattle.standards.specs.Strings.{_xor_, Bytes, Block}
 use Rattle.standards.specs.Rfc7253.{Key, wholes, blockAt, rest, Offset, sealBlock, openBlock, plainBlock, Blocks, Sum, lastOffset, lastText, lastSum, text, endOffset, sealSum, openSum}
-use Rattle.block.proofs.StringLaws.{xor-length, xor-cancel, xor-comm, xor-take}
+use Rattle.block.proofs.StringLaws.{xor-length, xor-cancel, xor-comm, xor-take, block-xor}
 use Rattle.ocb_laws.proofs.Cipher.{Cipher, Makes}
-use Rattle.ocb_laws.proofs.Sizes.{xor-block, whole-block, offset-block, seal-makes, open-makes, made, blocks-length, last-length, text-length}
+use Rattle.ocb_laws.proofs.Sizes.{whole-block, offset-block, seal-makes, open-makes, made, blocks-length, last-length, text-length}
 
 -- ---- one block
 
@@ -33,7 +33,7 @@ module _ {K : Key} (C : Cipher K) where
   pub open-seal-block : After (sealBlock K) (openBlock K) plainBlock
   unfolding sealBlock openBlock
   open-seal-block O b hO hb =
-      let hx : Block (b xor O) = xor-block b O hb (hO .bytes) in
+      let hx : Block (b xor O) = block-xor b O hb (hO .bytes) in
       ap (λ (X : List ℕ). O xor K .DECIPHER X) (outer O (K .ENCIPHER (b xor O)) hO (C .enc-block (b xor O) hx))
       ∙ ap (λ (X : List ℕ). O xor X) (C .dec-enc (b xor O) hx)
       ∙ inner O b hO hb
@@ -41,7 +41,7 @@ module _ {K : Key} (C : Cipher K) where
   pub seal-open-block : After (openBlock K) (sealBlock K) plainBlock
   unfolding sealBlock openBlock
   seal-open-block O b hO hb =
-      let hx : Block (b xor O) = xor-block b O hb (hO .bytes) in
+      let hx : Block (b xor O) = block-xor b O hb (hO .bytes) in
       ap (λ (X : List ℕ). O xor K .ENCIPHER X) (outer O (K .DECIPHER (b xor O)) hO (C .dec-block (b xor O) hx))
       ∙ ap (λ (X : List ℕ). O xor X) (C .enc-dec (b xor O) hx)
       ∙ inner O b hO hb

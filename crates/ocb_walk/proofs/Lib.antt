@@ -1,2 +1,4 @@
 pub mod WalkLaws
+pub mod EndLaws
+pub mod HashLaws
 pub mod TagLaws

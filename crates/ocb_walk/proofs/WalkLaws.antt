@@ -1,26 +1,23 @@
--- What holds of a text, an offset and a checksum after i blocks of the walk, and how one block, a pair and the last part take it on.
+-- What holds of a text, an offset and a checksum after i blocks of the walk, and how one block and a pair take it on.
 -- Stated once, over what makes the blocks (f) and what the checksum takes (g): sealing and opening cite it.
 -- Assumes nothing.
 use mathlib.Core.Path.{_≡_, refl, sym, ap, ap₂, _∙_, subst}
-use mathlib.Core.List.{List, [], _∷_, _++_, append-assoc, append-nil}
+use mathlib.Core.List.{List, [], _++_, append-assoc}
 use Prim.Native.Nat.{ℕ, _+_, _*_, _-_, _/_, _^_, _<_, _≤_}
-use native.Mathlib.Nat.{not-suc-le-zero}
 use native.Mathlib.Numerals.{add-one}
 use native.Mathlib.Omega.{arith}
-use lib.ListN.{length, take, drop, length-append, length-drop, drop-of-length-le, take-append-drop}
+use lib.ListN.{length, take, drop, length-append, length-drop, take-append-drop}
 use lib.Pow.{shr-lt}
 use lib.Seq.{take-at, drop-at, take-all, take-take, drop-drop, length-take-le}
 use Rattle.standards.specs.Strings.{_xor_, zeros}
-use Rattle.standards.specs.Rfc7253.{Key, wholes, blockAt, rest, padded, Offset, Blocks, Sum, lastOffset, lastText, lastSum, endOffset}
-use Rattle.ocb_laws.proofs.Sizes.{last-length, rest-length}
+use Rattle.standards.specs.Rfc7253.{Key, blockAt, Offset, Blocks, Sum}
 use Rattle.ocb_steps.specs.declared.Run.{Run}
 use Rattle.ocb_variables.specs.Held.{stateKey}
-use Rattle.ocb_steps.specs.Steps.{next, One, Two, Last}
-use Rattle.ocb_walk.specs.Walked.{Walked}
+use Rattle.ocb_steps.specs.Steps.{next, One, Two}
 use Rattle.ocb_steps.proofs.Lists.{drop-take}
 
 -- the text T when the k places that were lent from block i on have become y
-abbrev written : List ℕ → ℕ → ℕ → List ℕ → List ℕ
+abbrev pub written : List ℕ → ℕ → ℕ → List ℕ → List ℕ
 written T i k y = take (i * 16) T ++ (y ++ drop k (drop (i * 16) T))
 
 -- T is S after i blocks
@@ -56,10 +53,10 @@ module _ (f g : List ℕ → List ℕ → List ℕ) (K : Key) (O S : List ℕ) w
   done-none = record { text = refl; size = refl; offset = refl; sum = refl }
 
   module _ {T : List ℕ} {r : Run} (i : ℕ) (D : Done f g K O S T r i) where
-    done-drop : drop (i * 16) T ≡ drop (i * 16) S
+    pub done-drop : drop (i * 16) T ≡ drop (i * 16) S
     done-drop = ap (drop (i * 16)) (D .text) ∙ drop-at (Blocks f K O S i) (drop (i * 16) S) (i * 16) (D .size)
 
-    done-take : take (i * 16) T ≡ Blocks f K O S i
+    pub done-take : take (i * 16) T ≡ Blocks f K O S i
     done-take = ap (take (i * 16)) (D .text) ∙ take-at (Blocks f K O S i) (drop (i * 16) S) (i * 16) (D .size)
 
     done-length : i * 16 ≤ length S → length T ≡ length S
@@ -80,6 +77,7 @@ module _ (f g : List ℕ → List ℕ → List ℕ) (K : Key) (O S : List ℕ) w
           sum = cc (sum-more g K O S i);
         }
 
+  -- k places are lent from block i on, and become y
   module _ {r : Run} (T : List ℕ) (i k : ℕ) (D : Done f g K O S T r i) (y : List ℕ) (r' : Run)
       (kept : length y ≡ length (take k (drop (i * 16) T))) where
     done-one : i * 16 + 16 ≤ length S → k ≡ 16 → One f g K i (take k (drop (i * 16) T)) r y r'
@@ -97,6 +95,7 @@ module _ (f g : List ℕ → List ℕ → List ℕ) (K : Key) (O S : List ℕ) w
         (sym (ap₂ (λ (x z : List ℕ). x ++ (y ++ z)) (done-take i D) behind))
         (more i D y r' ly (one .offset) (cc) (cc))
 
+    -- two blocks more, one after the other: y1 and y2 are the halves of y, and r1 is the run between them
     done-two : i * 16 + 32 ≤ length S → k ≡ 32 → Two f g K i (take k (drop (i * 16) T)) r y r'
         → Done f g K O S (written T i k y) r' (i + 2)
     unfolding blockAt
@@ -164,6 +163,7 @@ module _ (f g : Key → List ℕ → List ℕ → List ℕ) (rk star table : Lis
     done = λ dollar. done-none (f (key dollar)) (g (key dollar)) (key dollar) O S;
   }
 
+  -- k places are lent from block i on, and become y
   module _ {r : Run} (T : List ℕ) (i k : ℕ) (y : List ℕ) (r' : Run) (kept : length y ≡ length (take k (drop (i * 16) T))) where
     module _ {O S : List ℕ} (G : Going f g rk star table O S T r i) where
       going : (j : ℕ) → j ≤ length S / 16 → ((dollar : List ℕ) → Done (f (key dollar)) (g (key dollar)) (key dollar) O S (written T i k y) r' j)
@@ -197,69 +197,3 @@ module _ (f g : Key → List ℕ → List ℕ → List ℕ) (rk star table : Lis
         let turn : (O S : List ℕ) → Going f g rk star table O S _ _ _ → Going f g rk star table O S (written T i k y) r' (i + 1) =
         λ O S begun. going-one (G .on O S begun) (omega (arith, begun .long)) ek one in
         record { within = h; long = turn O S start .long ∙ omega (arith, start .long); on = turn }
-
--- ---- the end: with no part left, and with a last part, of which q makes the plaintext
-
-last-offset-none : (K : Key) (O S : List ℕ) → length S ≡ 0 → lastOffset K O S ≡ O
-unfolding lastOffset
-last-offset-none K O [] h = refl
-last-offset-none K O (x ∷ S) h = absurd (omega arith)
-
-last-offset-some : (K : Key) (O S : List ℕ) → 0 < length S → lastOffset K O S ≡ O xor K .L-*
-unfolding lastOffset
-last-offset-some K O [] h = absurd (not-suc-le-zero h)
-last-offset-some K O (x ∷ S) h = refl
-
-last-sum-none : (s P : List ℕ) → length P ≡ 0 → lastSum s P ≡ s
-unfolding lastSum
-last-sum-none s [] h = refl
-last-sum-none s (x ∷ P) h = absurd (omega arith)
-
-last-sum-some : (s P : List ℕ) → 0 < length P → lastSum s P ≡ s xor padded P
-unfolding lastSum
-last-sum-some s [] h = absurd (not-suc-le-zero h)
-last-sum-some s (x ∷ P) h = refl
-
-no-places : (S : List ℕ) → length S ≡ 0 → S ≡ []
-no-places [] h = refl
-no-places (x ∷ S) h = absurd (omega arith)
-
-module _ (f g q : List ℕ → List ℕ → List ℕ) (K : Key) (O S : List ℕ) (kept : (X Y : List ℕ) → length (q X Y) ≡ length Y) where
-  -- what the walk leaves
-  abbrev Ended : List ℕ → Run → Type 0
-  Ended T r =
-      Walked (Blocks f K O S (wholes S) ++ lastText K (Offset K O (wholes S)) (rest S)) (endOffset K O S)
-      (lastSum (Sum g K O S (wholes S)) (q (Offset K O (wholes S)) (rest S))) T r
-
-  pub ended-whole : {T : List ℕ} {r : Run} (i : ℕ) → Done f g K O S T r i → i ≡ length S / 16 → length S ≤ length S / 16 * 16 → Ended T r
-  unfolding wholes endOffset rest
-  ended-whole i D ei h =
-      let n : ℕ = length S / 16 in
-      let none : length (rest S) ≡ 0 = omega (arith, rest-length S) in
-      let none' : length (q (Offset K O n) (rest S)) ≡ 0 = kept (Offset K O n) (rest S) ∙ none in
-      let e1 = no-places (rest S) none in
-      let e2 = no-places (lastText K (Offset K O n) (rest S)) (last-length K (Offset K O n) (rest S) ∙ none) in
-      record {
-        text-is = cc;
-        offset-is = cc (last-offset-none K (Offset K O n) (rest S) none);
-        sum-is = cc (last-sum-none (Sum g K O S n) (q (Offset K O n) (rest S)) none');
-      }
-
-  pub ended-part : {r : Run} (T : List ℕ) (i k : ℕ) (y : List ℕ) (r' : Run) → Done f g K O S T r i → i ≡ length S / 16
-      → length S / 16 * 16 < length S → k ≡ length S - length S / 16 * 16
-      → Last q K (take k (drop (length S / 16 * 16) T)) r y r'
-      → Ended (written T (length S / 16) k y) r'
-  unfolding wholes endOffset rest
-  ended-part {r} T i k y r' D ei h ek last =
-      let n : ℕ = length S / 16 in
-      let D' : Done f g K O S T r n = subst (λ (x : ℕ). Done f g K O S T r x) ei D in
-      let long : length (rest S) ≡ length S - n * 16 = rest-length S in
-      let d : drop (n * 16) T ≡ rest S = done-drop f g K O S n D' in
-      let lent : take k (drop (n * 16) T) ≡ rest S = ap (take k) d ∙ take-all k (rest S) (omega arith) in
-      let behind : drop k (drop (n * 16) T) ≡ [] = ap (drop k) d ∙ drop-of-length-le (rest S) {i = k} (omega arith) in
-      let some : 0 < length (q (Offset K O n) (rest S)) = omega (arith, kept (Offset K O n) (rest S)) in
-      record {
-        text-is = cc (done-take f g K O S n D', append-nil y);
-        offset-is = cc (last-offset-some K (Offset K O n) (rest S) (omega arith));
-        sum-is = cc (last-sum-some (Sum g K O S n) (q (Offset K O n) (rest S)) some);
-      }

@@ -48,9 +48,9 @@ pub fn write_tag(computed: [u8; 16], place: &mut [u8])
     requires { ⌜ length (now place) ≤ 16 ⌝ }
     ensures { λ r. ⌜ now (place .exit) ≡ take (length (now (place .entry))) computed ⌝ }
 {
-    let mut i = 0;
-    while i < place.len() {
-        place[i] = computed[i];
-        i += 1;
+    let mut k = 0;
+    while k < place.len() {
+        place[k] = computed[k];
+        k += 1;
     }
 }

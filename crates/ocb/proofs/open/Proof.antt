@@ -4,7 +4,7 @@ use lib.ListN.{getD}
 use mir.Syntax.{w8}
 use mir.Val.{Fits}
 use Rattle.standards.specs.Strings.{Bytes}
-use Rattle.ocb.proofs.Refusals.{below-30}
+use Rattle.ocb_numbers.proofs.Refusals.{below-30}
 use Rattle.ocb.proofs.Outcomes.{open-refused, sizes, open-done, open-cleared}
 use borrow.Author.Needs.{needs}
 use Rattle.ocb.proofs.open.Statement.{statement}

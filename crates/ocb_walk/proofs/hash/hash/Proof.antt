@@ -6,7 +6,7 @@ use native.Mathlib.Omega.{arith}
 use borrow.Author.Needs.{needs}
 use lib.ListN.{length}
 use lib.Pow.{shr-lt}
-use Rattle.ocb_walk.proofs.TagLaws.{Hashing, hashing-none, hashing-more, hash-whole, hash-part}
+use Rattle.ocb_walk.proofs.HashLaws.{Hashing, hashing-none, hashing-more, hash-whole, hash-part}
 use Rattle.ocb_walk.proofs.hash.hash.Statement.{statement}
 use Rattle.ocb_walk.proofs.hash.hash.Tie as tie
 

@@ -9,7 +9,8 @@ use lib.ListN.{length}
 use Rattle.standards.specs.Rfc7253.{openBlock, lastText, text, openSum}
 use Rattle.ocb_laws.proofs.Sizes.{last-length}
 use Rattle.ocb_variables.specs.Held.{stateKey}
-use Rattle.ocb_walk.proofs.WalkLaws.{Going, GoingOn, lent-blocks, going-none, going-two, going-on, ended-whole, ended-part}
+use Rattle.ocb_walk.proofs.WalkLaws.{Going, GoingOn, lent-blocks, going-none, going-two, going-on}
+use Rattle.ocb_walk.proofs.EndLaws.{ended-whole, ended-part}
 use Rattle.ocb_walk.proofs.open.decrypt_text.Statement.{statement}
 use Rattle.ocb_walk.proofs.open.decrypt_text.Tie as tie
 

@@ -9,7 +9,8 @@ use borrow.Author.Needs.{needs}
 use lib.ListN.{length}
 use Rattle.standards.specs.Rfc7253.{Key, sealBlock, plainBlock, text, sealSum}
 use Rattle.ocb_variables.specs.Held.{stateKey}
-use Rattle.ocb_walk.proofs.WalkLaws.{Going, GoingOn, lent-blocks, going-none, going-two, going-on, ended-whole, ended-part}
+use Rattle.ocb_walk.proofs.WalkLaws.{Going, GoingOn, lent-blocks, going-none, going-two, going-on}
+use Rattle.ocb_walk.proofs.EndLaws.{ended-whole, ended-part}
 use Rattle.ocb_walk.proofs.seal.encrypt_text.Statement.{statement}
 use Rattle.ocb_walk.proofs.seal.encrypt_text.Tie as tie
 

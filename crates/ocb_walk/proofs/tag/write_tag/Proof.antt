@@ -1,4 +1,4 @@
--- `write_tag` meets its contract. The loop's invariant: the first i bytes are the computed tag's, the others as they were.
+-- `write_tag` meets its contract. The loop's invariant: the first k bytes are the computed tag's, the others as they were.
 -- Assumes nothing.
 use mathlib.Core.Path.{_≡_, refl, ap, _∙_}
 use mathlib.Core.List.{List, _++_, append-nil}
@@ -11,11 +11,11 @@ use Rattle.ocb_walk.proofs.tag.write_tag.Statement.{statement}
 use Rattle.ocb_walk.proofs.tag.write_tag.Tie as tie
 
 abbrev Inv-loop : tie.InvT-loop
-Inv-loop place₀ computed i₀ place i =
-    (i ≤ length place₀) × (length place ≡ length place₀) × (place ≡ take i computed ++ drop i place₀) × (length computed ≡ 16)
+Inv-loop place₀ computed k₀ place k =
+    (k ≤ length place₀) × (length place ≡ length place₀) × (place ≡ take k computed ++ drop k place₀) × (length computed ≡ 16)
 
 abbrev μ-loop : tie.MeasureT-loop
-μ-loop place₀ computed i₀ place i = length place₀ - i
+μ-loop place₀ computed k₀ place k = length place₀ - k
 
 loop-holds : tie.Need-loop-holds Inv-loop μ-loop
 loop-holds c = (search needs, refl, refl, search needs)
@@ -26,8 +26,8 @@ array-read-place c = search needs
 slice-write-place : tie.Need-slice-write-place Inv-loop μ-loop
 slice-write-place c = search needs
 
-add-i : tie.Need-add-i Inv-loop μ-loop
-add-i c = search needs
+add-k : tie.Need-add-k Inv-loop μ-loop
+add-k c = search needs
 
 loop-less : tie.Need-loop-less Inv-loop μ-loop
 loop-less c = search needs
@@ -38,7 +38,7 @@ loop-again c =
     let s = c .before .before in (
       omega arith,
       simp length-set (l .inv .1),
-      copied-turn (s .args .t1) (s .args .place .now) (l .place) (l .i) (omega arith) (omega arith) (l .inv .2),
+      copied-turn (s .args .t1) (s .args .place .now) (l .place) (l .k) (omega arith) (omega arith) (l .inv .2),
       l .inv .3,
     )
 
@@ -48,13 +48,13 @@ same-length c = c .before .loop .inv .1
 returns : tie.Need-returns Inv-loop μ-loop
 returns c =
     let l = c .before .loop in
-    let k : List ℕ = c .before .before .args .t1 in
+    let tag : List ℕ = c .before .before .args .t1 in
     let t : List ℕ = c .before .before .args .place .now in
-    let e : l .i ≡ length t = omega arith in
+    let e : l .k ≡ length t = omega arith in
     l .inv .2
-    ∙ ap (λ (x : List ℕ). take (l .i) k ++ x) (drop-of-length-le t {i = l .i} (omega arith))
-    ∙ append-nil (take (l .i) k)
-    ∙ ap (λ (n : ℕ). take n k) e
+    ∙ ap (λ (x : List ℕ). take (l .k) tag ++ x) (drop-of-length-le t {i = l .k} (omega arith))
+    ∙ append-nil (take (l .k) tag)
+    ∙ ap (λ (n : ℕ). take n tag) e
 
 pub write-tag-spec : {M : Type 1} → statement M
 write-tag-spec =
@@ -65,7 +65,7 @@ write-tag-spec =
     loop-holds
     array-read-place
     slice-write-place
-    add-i
+    add-k
     loop-less
     loop-again
     same-length

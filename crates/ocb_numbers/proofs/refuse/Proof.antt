@@ -1,12 +1,12 @@
--- `ocb::refuse` meets its contract: each test is a rule of the table, in the table's order. Assumes nothing.
+-- `ocb_numbers::refuse` meets its contract: each test is a rule of the table, in the table's order. Assumes nothing.
 use mathlib.Core.Path.{sym, _∙_}
 use Prim.Native.Nat.{ℕ}
 use native.Mathlib.Omega.{arith}
 use borrow.Author.Needs.{needs}
-use Rattle.ocb.specs.Answers.{outside}
-use Rattle.ocb.proofs.Refusals.{inside, refused-2, refused-3, refused-4, refused-5, refused-6, refused-0, limit-is}
-use Rattle.ocb.proofs.refuse.Statement.{statement}
-use Rattle.ocb.proofs.refuse.Tie as tie
+use Rattle.ocb_numbers.specs.Numbers.{outside}
+use Rattle.ocb_numbers.proofs.Refusals.{inside, refused-2, refused-3, refused-4, refused-5, refused-6, refused-0, limit-is}
+use Rattle.ocb_numbers.proofs.refuse.Statement.{statement}
+use Rattle.ocb_numbers.proofs.refuse.Tie as tie
 
 outside-requires : tie.Need-outside-requires
 outside-requires c κs = search needs

@@ -1,19 +1,14 @@
 -- The tables of numbers against the tests that the code makes, and what an admitted size is known to be. Each test is one of the table's.
 -- Assumes nothing.
 use mathlib.Core.Path.{_≡_, refl, sym, ap, ap₂, _∙_}
-use mathlib.Core.Bool.{Bool, true, false, _||_}
-use mathlib.Core.List.{List}
+use mathlib.Core.Bool.{Bool, true, false, not, _||_}
 use Prim.Native.Nat.{ℕ, suc, _+_, _*_, _%_, _^_, _<_, _≤_}
 use native.Mathlib.Nat.{one-mul, mod-eq-of-lt, lt-of-le-of-lt, lt-of-lt-of-le}
 use native.Mathlib.Omega.{arith}
-use borrow.Author.Tests.{ltb-false, leb-false, lt-ltb, le-ltb, lt-leb, le-leb, eq-eqb, ne-eqb}
-use lib.Dec.{ltb, leb, lit<, lit≤}
-use lib.ListN.{length}
+use borrow.Author.Tests.{ltb-false, leb-false, eqb-true, not-false, lt-ltb, le-ltb, lt-leb, le-leb, eq-eqb, ne-eqb}
+use lib.Dec.{eqb, ltb, leb, lit<, lit≤}
 use lib.Pow.{pow-mono}
-use Rattle.standards.specs.Fips197.{keyExpansion}
-use Rattle.ocb_variables.specs.State.{stateOf}
-use Rattle.ocb.specs.Terms.{Inside, InRange}
-use Rattle.ocb.specs.Answers.{choose, outside, limit, setUpNumber, refusedSetUp, setUp, refusal}
+use Rattle.ocb_numbers.specs.Numbers.{choose, outside, limit, setUpNumber, refusal, Inside, InRange}
 
 -- ---- in least..most
 
@@ -30,20 +25,20 @@ inside least most n e = go (ltb n least) refl e
     go true p q = let z : _≡_ {A = ℕ} 0 1 = cc in absurd (omega arith)
     go false p q = record { least = ltb-false n least p; most = ltb-false most n q }
 
--- ---- what set_up gives
+-- ---- the numbers of set_up
 
-module _ (key : List ℕ) (m : ℕ) where
-  pub set-up-1 : (length key ≡ 16 → ⊥) → refusedSetUp 1 ≡ setUp key m
-  unfolding setUp setUpNumber
-  set-up-1 h = sym (simp (ne-eqb (length key) 16 h))
+module _ (key m : ℕ) where
+  pub set-up-1 : (key ≡ 16 → ⊥) → 1 ≡ setUpNumber key m
+  unfolding setUpNumber
+  set-up-1 h = sym (simp (ne-eqb key 16 h))
 
-  pub set-up-2 : length key ≡ 16 → outside 1 26 m ≡ true → refusedSetUp 2 ≡ setUp key m
-  unfolding setUp setUpNumber
-  set-up-2 h e = sym (simp (eq-eqb (length key) 16 h, e))
+  pub set-up-2 : key ≡ 16 → outside 1 26 m ≡ true → 2 ≡ setUpNumber key m
+  unfolding setUpNumber
+  set-up-2 h e = sym (simp (eq-eqb key 16 h, e))
 
-  pub set-up-0 : length key ≡ 16 → outside 1 26 m ≡ false → setUp key m ≡ record { number = 0; state = stateOf (keyExpansion 4 10 key) m }
-  unfolding setUp setUpNumber
-  set-up-0 h e = simp (eq-eqb (length key) 16 h, e)
+  pub set-up-0 : key ≡ 16 → outside 1 26 m ≡ false → 0 ≡ setUpNumber key m
+  unfolding setUpNumber
+  set-up-0 h e = sym (simp (eq-eqb key 16 h, e))
 
 -- ---- the numbers of seal and open
 
@@ -90,6 +85,13 @@ limit-is m h =
 none-applies : (b : Bool) (k others : ℕ) → choose b (suc k) others ≡ 0 → (b ≡ false) × (others ≡ 0)
 none-applies true k others e = absurd (omega arith)
 none-applies false k others e = (refl, e)
+
+pub set-up-sizes : (key m : ℕ) → setUpNumber key m ≡ 0 → (key ≡ 16) × Inside 1 26 m
+unfolding setUpNumber
+set-up-sizes key m e =
+    let p₁ = none-applies (not (eqb key 16)) 0 _ e in
+    let p₂ = none-applies (outside 1 26 m) 1 _ (p₁ .1) in
+    (eqb-true key 16 (not-false (eqb key 16) (p₁ .0)), inside 1 26 m (p₂ .0))
 
 pub in-range : (m nonce tag text ad : ℕ) → refusal m nonce tag text ad ≡ 0 → InRange m nonce tag text ad
 unfolding refusal
