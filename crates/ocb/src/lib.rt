@@ -1,5 +1,5 @@
 // OCB3 (RFC 7253) over AES-128 (FIPS 197): the entry points. Every input is answered. What each number leaves stands in specs/Answers.antt,
-// and what follows from it for states made from a key in specs/Demands.antt.
+// and what follows from it for states made from a key in proofs/Demands.antt.
 use ocb_variables::State;
 ghost use mathlib.Core.Path.{_≡_};
 ghost use Rattle.ocb.specs.Answers.{refusedSetUp, setUp, sealed, opened, Leaves};
