@@ -92,8 +92,8 @@ def sealed_at_the_limit(case):
 
 
 def by_openssl(case, openssl, crate):
-    """Number, text and tag that the port owes, or None where OpenSSL is not asked: it knows none of the paper's refusals. The crate's text must be the
-    same, also after a wrong tag."""
+    """The answer that the port owes but for its count, or None where OpenSSL is not asked: it knows none of the paper's refusals. The crate's text must be
+    the same, also after a wrong tag."""
     if case is None or paper.refusal(case):
         return None
     if case.open:
@@ -104,4 +104,4 @@ def by_openssl(case, openssl, crate):
         accepted = True
     if (crate.words, crate.text, crate.tag) != ("answer 0" if accepted else "answer 7", text, tag):
         raise Unexplained("the crate and OpenSSL differ")
-    return (0, text, tag) if accepted else (7, bytes(len(text)), tag)
+    return Answer(0, 0, text, tag) if accepted else Answer(7, 0, bytes(len(text)), tag)
