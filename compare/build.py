@@ -103,6 +103,7 @@ def vendor(folder, options):
         for crate in sorted((room / "usr/share/cargo/registry").iterdir()):
             if tree_sha256(crate) != recorded:
                 if not options.newer:
+                    deb.unlink()
                     raise Trouble(f"the crate {crate.name} of {deb.name} is not the one recorded in packages.txt (--newer takes it)")
                 exact = False
                 say(f"NOTE: {crate.name} is not the crate recorded in packages.txt")

@@ -59,18 +59,16 @@ def framed(items):
 
 
 def unframed(stream):
-    """The items of a stream. Trouble where it ends inside one."""
+    """The whole items of a stream, and whether nothing is left behind them."""
     items, place = [], 0
-    while place < len(stream):
-        if place + FRAME.size > len(stream):
-            raise Trouble("ends inside a frame")
-        (length,) = FRAME.unpack_from(stream, place)
-        place += FRAME.size
-        if place + length > len(stream):
-            raise Trouble("ends inside a frame")
-        items.append(stream[place : place + length])
-        place += length
-    return items
+    while place + FRAME.size <= len(stream):
+        start = place + FRAME.size
+        end = start + FRAME.unpack_from(stream, place)[0]
+        if end > len(stream):
+            break
+        items.append(stream[start:end])
+        place = end
+    return items, place == len(stream)
 
 
 # A list: the mark, then entries until the end of the file. An entry: the case in a frame; one byte, 1 for a bad case, else 0; after 0 the number (one

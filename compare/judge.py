@@ -2,6 +2,7 @@
 
 import shlex
 import subprocess
+from pathlib import Path
 from typing import NamedTuple
 
 import paper
@@ -34,20 +35,28 @@ def said(output):
     return Said(words, int(calls or 0), bytes.fromhex(text), bytes.fromhex(tag))
 
 
+def port_command(given):
+    """The words of the command line that was given, or the program that this repository builds."""
+    if given:
+        try:
+            return shlex.split(given)
+        except ValueError:
+            raise Trouble(f"--port is no command line: {given}") from None
+    program = Path(__file__).resolve().parent.parent / "target/bin/ocb_stream"
+    if not program.exists():
+        raise Trouble("no target/bin/ocb_stream: 'rt check ocb_stream' builds it, or --port COMMAND names another program")
+    return [str(program)]
+
+
 def answers(command, raws, name):
     """Starts a program (a list of words), hands it the cases in frames and gives its answers."""
     try:
         process = subprocess.run(command, input=framed(raws), stdout=subprocess.PIPE, check=False)
     except OSError as error:
         raise Trouble(f"{name} cannot be started ({error.strerror}): {shlex.join(command)}") from None
-    if process.returncode != 0:
-        raise Trouble(f"{name} ends with status {process.returncode}: {shlex.join(command)}")
-    try:
-        outputs = unframed(process.stdout)
-    except Trouble as trouble:
-        raise Trouble(f"{name}'s output {trouble}") from None
-    if len(outputs) != len(raws):
-        raise Trouble(f"{name} gives {len(outputs)} answers to {len(raws)} cases")
+    outputs, whole = unframed(process.stdout)
+    if process.returncode != 0 or not whole or len(outputs) != len(raws):
+        raise Trouble(f"{name} gives {len(outputs)} whole answers to {len(raws)} cases and ends with status {process.returncode}: {shlex.join(command)}")
     return outputs
 
 

@@ -1,13 +1,13 @@
 //! The crate over AES-128 with a count of the blocks that it hands to the cipher. Its sizes are types, so each combination is an instance of its own: nonces
-//! of 6 to 15 bytes, tags of 1 to 16, tables of 0 to 27 places. A table of 0 or of 27 is outside document 01, but the crate compiles with it.
+//! of 6 to 15 bytes, tags of 1 to 16, tables of 0 to 27 places. A table of 0 or of 27 is outside what the port admits, but the crate compiles with it.
 
 use std::cell::Cell;
 use std::panic::{AssertUnwindSafe, catch_unwind};
 
 use aes::Aes128;
 use cipher::{
-    Block, BlockCipherDecBackend, BlockCipherDecClosure, BlockCipherDecrypt, BlockCipherEncBackend, BlockCipherEncClosure, BlockCipherEncrypt,
-    BlockSizeUser, InOut, KeyInit, ParBlocksSizeUser, consts::*,
+    Block, BlockCipherDecBackend, BlockCipherDecClosure, BlockCipherDecrypt, BlockCipherEncBackend, BlockCipherEncClosure, BlockCipherEncrypt, BlockSizeUser,
+    InOut, KeyInit, ParBlocksSizeUser, consts::*,
 };
 use ocb3::{AeadCore, AeadInOut, Array, Ocb3};
 
