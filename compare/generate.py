@@ -39,6 +39,7 @@ class Generator:
             ("last nonce byte", self.last_nonce_bytes),
             ("each bit of the tag", self.tag_bits),
             ("each bit of the rest", self.other_bits),
+            ("one byte, each value", self.single_bytes),
             ("bad form", self.bad_forms),
         )
 
@@ -135,6 +136,16 @@ class Generator:
             body = getattr(good, name)
             for bit in range(8 * len(body)):
                 yield good._replace(**{name: self.flipped(body, bit)}).encoded()
+
+    def single_bytes(self):
+        """Every text of one byte both ways, all data of one byte, and every tag of one byte, of which an open accepts one."""
+        seal = self.fresh(1, 1, 1, tag=1)
+        good = self.sealed(seal)
+        for value in range(256):
+            byte = bytes([value])
+            yield from self.both_ways(seal._replace(text=byte))
+            yield seal._replace(data=byte).encoded()
+            yield good._replace(tag=byte).encoded()
 
     def bad_forms(self):
         good = self.fresh(2, 5, 7).encoded()
