@@ -1,0 +1,5 @@
+pub mod Over
+pub mod Decimal
+pub mod Lines
+pub mod Flaws
+pub mod Worked
