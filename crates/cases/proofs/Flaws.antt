@@ -7,9 +7,9 @@ use borrow.Author.Tests.{le-ltb, eq-eqb}
 use lib.Dec.{eqb}
 use lib.ListN.{length, getD}
 use Rattle.cases.specs.Case.{word, total, lengths, flaws, any, malformed}
-use Rattle.cases.specs.Places.{places, decoded}
-use Rattle.cases.specs.declared.table.Decoded.{Decoded}
-use Rattle.cases.specs.declared.table.Decoded.the-variants.{Bad, Good}
+use Rattle.cases.specs.Places.{places, found}
+use Rattle.cases.specs.declared.table.Found.{Found}
+use Rattle.cases.specs.declared.table.Found.the-variants.{Bad, Good}
 
 or-left : (a b : Bool) → a ≡ true → a || b ≡ true
 or-left a b e = rw e
@@ -23,8 +23,8 @@ any-at [] i e = e
 any-at (test ∷ tests) zero e = or-left test (any tests) e
 any-at (test ∷ tests) (suc i) e = or-right test (any tests) (any-at tests i e)
 
-pub bad : (S : List ℕ) (i : ℕ) → getD (flaws S) i false ≡ true → Bad ≡ decoded S
-unfolding decoded malformed
+pub bad : (S : List ℕ) (i : ℕ) → getD (flaws S) i false ≡ true → Bad ≡ found S
+unfolding found malformed
 bad S i e = sym (ap (λ (b : Bool). cond b Bad (Good (places S (lengths S)))) (any-at (flaws S) i e))
 
 -- a case with a table, lengths up to 8,192 each, and as many bytes as they ask for
@@ -44,13 +44,13 @@ formed-well S f =
     simp
     (le-ltb _ _ (f .table), le-ltb _ _ (f .first), le-ltb _ _ (f .key), le-ltb _ _ (f .nonce), le-ltb _ _ (f .ad), le-ltb _ _ (f .text), le-ltb _ _ (f .tag), eq-eqb _ _ (f .size))
 
-pub good : (S : List ℕ) → Formed S → Good (places S (lengths S)) ≡ decoded S
-unfolding decoded
+pub good : (S : List ℕ) → Formed S → Good (places S (lengths S)) ≡ found S
+unfolding found
 good S f = sym (ap (λ (b : Bool). cond b Bad (Good (places S (lengths S)))) (formed-well S f))
 
 -- the places by the lengths as they were read
 pub placed : (S : List ℕ) {k n a t g : ℕ} → k ≡ word S 2 → n ≡ word S 6 → a ≡ word S 10 → t ≡ word S 14 → g ≡ word S 18
-    → _≡_ {A = Decoded}
+    → _≡_ {A = Found}
     (Good (record {
       opens = eqb (getD S 0 0) 1;
       m = getD S 1 0;

@@ -74,6 +74,13 @@ bodies S l = record {
   tag = body S (22 + l .key + l .nonce + l .ad + l .text) (l .tag);
 }
 
+pub data Decoded : Type 0 where
+  bad : Decoded
+  good : Case → Decoded
+
+unfoldable pub decode : List ℕ → Decoded
+decode S = cond (malformed S) bad (good (bodies S (lengths S)))
+
 -- ---- The answer
 
 abbrev pub worked : Bool → SetUp → List ℕ → List ℕ → List ℕ → List ℕ → Outcome
@@ -86,10 +93,3 @@ after u opens N A S T = unless (u .number) S T (worked opens u N A S T)
 
 unfoldable pub outcome : Case → Outcome
 outcome c = after (setUp (c .key) (c .m)) (c .opens) (c .nonce) (c .ad) (c .text) (c .tag)
-
-pub data Said : Type 0 where
-  badCase : Said
-  answer : Outcome → Said
-
-unfoldable pub said : List ℕ → Said
-said S = cond (malformed S) badCase (answer (outcome (bodies S (lengths S))))

@@ -1,38 +1,48 @@
--- What the entry points leave in the buffers lent to them, for each thing that is said of a case.
+-- What the entry points leave in the buffers lent to them, for each thing that a case may be decoded to.
 use mathlib.Core.Path.{_≡_}
 use mathlib.Core.Bool.{Bool, cond, _&&_}
-use mathlib.Core.List.{List, []}
+use mathlib.Core.List.{List, [], _++_}
 use Prim.Native.Nat.{ℕ}
 use lib.Dec.{leb}
-use lib.ListN.{length}
-use Rattle.ocb.specs.Answers.{Outcome}
-use Rattle.cases.specs.Case.{Said, badCase, answer}
+use lib.ListN.{length, drop}
+use Rattle.ocb.specs.declared.Answer.{Answer}
+use Rattle.cases.specs.Case.{Case, Decoded, bad, good, outcome}
 use Rattle.cases.specs.Text.{output, over}
 use Rattle.cases.specs.declared.Reply.{Reply}
 use Rattle.cases.specs.declared.Reply.the-variants.{Bad, NoRoom, Answered}
 
 -- ---- answer
 
+-- the buffer d with S in the place of its first n bytes
+abbrev pub front : List ℕ → ℕ → List ℕ → List ℕ
+front S n d = S ++ drop n d
+
+-- the answer r is that of the case c, whose text and tag stand afterwards at the front of what were the buffers text and tag
+pub record Lays (c : Case) (r : Answer) (text tag text' tag' : List ℕ) : Type 0 where
+  pub number : r .number ≡ outcome c .number
+  pub calls : r .calls ≡ outcome c .calls
+  pub text-left : text' ≡ front (outcome c .text) (length (c .text)) text
+  pub tag-left : tag' ≡ front (outcome c .tag) (length (c .tag)) tag
+
 pub record Result : Type 0 where
   pub reply : Reply
   pub text : List ℕ
   pub tag : List ℕ
 
--- the buffers text and tag have room for the outcome's
-abbrev pub room : Outcome → List ℕ → List ℕ → Bool
-room o text tag = leb (length (o .text)) (length text) && leb (length (o .tag)) (length tag)
+-- the buffers text and tag have room for the case's
+abbrev pub room : Case → List ℕ → List ℕ → Bool
+room c text tag = leb (length (c .text)) (length text) && leb (length (c .tag)) (length tag)
 
--- the outcome's text and tag at the front of the buffers
-abbrev pub laid : Outcome → List ℕ → List ℕ → Result
-laid o text tag = record {
-  reply = Answered (o .number) (o .calls) (length (o .text)) (length (o .tag));
-  text = over text 0 (o .text);
-  tag = over tag 0 (o .tag);
+abbrev pub laid : Case → List ℕ → List ℕ → Result
+laid c text tag = record {
+  reply = Answered (outcome c .number) (outcome c .calls) (length (c .text)) (length (c .tag));
+  text = front (outcome c .text) (length (c .text)) text;
+  tag = front (outcome c .tag) (length (c .tag)) tag;
 }
 
-unfoldable pub result : Said → List ℕ → List ℕ → Result
-result badCase text tag = record { reply = Bad; text = text; tag = tag }
-result (answer o) text tag = cond (room o text tag) (laid o text tag) (record { reply = NoRoom; text = text; tag = tag })
+unfoldable pub result : Decoded → List ℕ → List ℕ → Result
+result bad text tag = record { reply = Bad; text = text; tag = tag }
+result (good c) text tag = cond (room c text tag) (laid c text tag) (record { reply = NoRoom; text = text; tag = tag })
 
 -- the reply r, and the buffers that are left, are the result's
 pub record Left (x : Result) (r : Reply) (text tag : List ℕ) : Type 0 where
@@ -42,11 +52,11 @@ pub record Left (x : Result) (r : Reply) (text tag : List ℕ) : Type 0 where
 
 -- ---- respond
 
--- no output is longer than 33,000 bytes; a smaller buffer is left alone
-unfoldable pub written : Said → List ℕ → List ℕ
-written s out = cond (leb 33000 (length out)) (output s) []
+-- what is written to a buffer: nothing if it has fewer than 33,000 bytes, which is more than any output has
+unfoldable pub written : Decoded → List ℕ → List ℕ
+written d out = cond (leb 33000 (length out)) (output d) []
 
--- r bytes of output stand at the front of what was out
-pub record Responds (s : Said) (out : List ℕ) (r : ℕ) (out' : List ℕ) : Type 0 where
-  pub count : r ≡ length (written s out)
-  pub left : out' ≡ over out 0 (written s out)
+-- r bytes were written at the front of what was out
+pub record Responds (d : Decoded) (out : List ℕ) (r : ℕ) (out' : List ℕ) : Type 0 where
+  pub count : r ≡ length (written d out)
+  pub left : out' ≡ over out 0 (written d out)

@@ -6,7 +6,7 @@ use Prim.Native.Nat.{ℕ, zero, suc, _+_, _/_, _%_}
 use lib.Dec.{ltb}
 use lib.ListN.{length, take, drop}
 use Rattle.io.specs.Digits.{glyph}
-use Rattle.cases.specs.Case.{Said, badCase, answer}
+use Rattle.cases.specs.Case.{Decoded, bad, good, outcome}
 
 -- two digits to a byte
 unfoldable pub hex : List ℕ → List ℕ
@@ -47,9 +47,9 @@ abbrev pub badLine : List ℕ
 badLine = 98 ∷ 97 ∷ 100 ∷ 32 ∷ 99 ∷ 97 ∷ 115 ∷ 101 ∷ newline
 
 -- what the test program writes
-unfoldable pub output : Said → List ℕ
-output badCase = badLine
-output (answer o) = lines (o .number) (o .calls) (o .text) (o .tag)
+unfoldable pub output : Decoded → List ℕ
+output bad = badLine
+output (good c) = lines (outcome c .number) (outcome c .calls) (outcome c .text) (outcome c .tag)
 
 -- d with S over its bytes from place at on
 abbrev pub over : List ℕ → ℕ → List ℕ → List ℕ

@@ -3,7 +3,7 @@ ghost use mathlib.Core.Path.{_≡_};
 ghost use Prim.Native.Nat.{_+_, _≤_};
 ghost use lib.ListN.{length};
 ghost use Rattle.cases.specs.Case.{word};
-ghost use Rattle.cases.specs.Places.{decoded};
+ghost use Rattle.cases.specs.Places.{found};
 
 // Whether to open, m, and where each body behind the key begins. The key begins at 22, and the last body ends at end.
 pub struct Table {
@@ -16,7 +16,7 @@ pub struct Table {
     pub end: usize,
 }
 
-pub enum Decoded {
+pub enum Found {
     Bad,
     Good(Table),
 }
@@ -32,34 +32,34 @@ fn word(case: &[u8], at: usize) -> usize
         + case[at + 3] as usize * 16777216
 }
 
-pub fn decode(case: &[u8]) -> Decoded
-    ensures { λ r. ⌜ r ≡ decoded (now (case .entry)) ⌝ }
+pub fn find(case: &[u8]) -> Found
+    ensures { λ r. ⌜ r ≡ found (now (case .entry)) ⌝ }
 {
     if case.len() < 22 {
-        return Decoded::Bad;
+        return Found::Bad;
     }
     if 1 < case[0] {
-        return Decoded::Bad;
+        return Found::Bad;
     }
     let key = word(case, 2);
     if 8192 < key {
-        return Decoded::Bad;
+        return Found::Bad;
     }
     let nonce = word(case, 6);
     if 8192 < nonce {
-        return Decoded::Bad;
+        return Found::Bad;
     }
     let ad = word(case, 10);
     if 8192 < ad {
-        return Decoded::Bad;
+        return Found::Bad;
     }
     let text = word(case, 14);
     if 8192 < text {
-        return Decoded::Bad;
+        return Found::Bad;
     }
     let tag = word(case, 18);
     if 8192 < tag {
-        return Decoded::Bad;
+        return Found::Bad;
     }
     let nonce_at = 22 + key;
     let ad_at = nonce_at + nonce;
@@ -67,9 +67,9 @@ pub fn decode(case: &[u8]) -> Decoded
     let tag_at = text_at + text;
     let end = tag_at + tag;
     if case.len() != end {
-        return Decoded::Bad;
+        return Found::Bad;
     }
-    Decoded::Good(Table {
+    Found::Good(Table {
         opens: case[0] == 1,
         m: case[1] as usize,
         nonce: nonce_at,

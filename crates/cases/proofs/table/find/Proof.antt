@@ -1,4 +1,4 @@
--- `cases::table::decode` meets its contract: each test that returns early is a flaw, and without any the places are those of the lengths read.
+-- `cases::table::find` meets its contract: each test that returns early is a flaw, and without any the places are those of the lengths read.
 -- Assumes nothing.
 use mathlib.Core.Path.{_≡_, sym, ap, subst, _∙_}
 use mathlib.Core.Bool.{not}
@@ -10,8 +10,8 @@ use borrow.Author.Tests.{lt-ltb, ne-eqb}
 use lib.ListN.{length}
 use Rattle.cases.specs.Case.{total, lengths}
 use Rattle.cases.proofs.Flaws.{bad, Formed, good, placed}
-use Rattle.cases.proofs.table.decode.Statement.{statement}
-use Rattle.cases.proofs.table.decode.Tie as tie
+use Rattle.cases.proofs.table.find.Statement.{statement}
+use Rattle.cases.proofs.table.find.Tie as tie
 
 returns : tie.Need-returns
 returns c = bad _ 0 (lt-ltb _ _ (c .if1 .taken))
@@ -101,8 +101,8 @@ returns-9 c =
     } in
     placed S e1 e2 e3 e4 e5 ∙ good S f
 
-pub decode-spec : {M : Type 1} → statement M
-decode-spec =
+pub find-spec : {M : Type 1} → statement M
+find-spec =
     tie.close
     (tie.spec
     returns
