@@ -6,3 +6,4 @@ pub mod Worked
 pub mod Placed
 pub mod Laid
 pub mod Answered
+pub mod Responded
