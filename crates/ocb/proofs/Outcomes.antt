@@ -79,10 +79,10 @@ refused zero o S T h = absurd (h refl)
 refused (suc n) o S T h = record { number = refl; calls = refl; text-left = refl; tag-left = refl }
 
 -- what is left by number n, and what by none
-by-number : {n k : ℕ} (o : Outcome) (S T : List ℕ) → k ≡ n → (k ≡ 0 → ⊥) → Leaves (unless n S T o) (record { number = k; calls = 0 }) S T
+pub by-number : {n k : ℕ} (o : Outcome) (S T : List ℕ) → k ≡ n → (k ≡ 0 → ⊥) → Leaves (unless n S T o) (record { number = k; calls = 0 }) S T
 by-number {n} {k} o S T e h = subst (λ (i : ℕ). Leaves (unless i S T o) (record { number = k; calls = 0 }) S T) e (refused k o S T h)
 
-by-none : {n k : ℕ} {o : Outcome} {r : Answer} {S' T' : List ℕ} (S T : List ℕ) → k ≡ n → k ≡ 0 → Leaves o r S' T' → Leaves (unless n S T o) r S' T'
+pub by-none : {n k : ℕ} {o : Outcome} {r : Answer} {S' T' : List ℕ} (S T : List ℕ) → k ≡ n → k ≡ 0 → Leaves o r S' T' → Leaves (unless n S T o) r S' T'
 by-none {n} {k} {o} {r} {S'} {T'} S T e z L = subst (λ (i : ℕ). Leaves (unless i S T o) r S' T') (sym z ∙ e) L
 
 module _ (s : State) (N A S T : List ℕ) {k : ℕ} (asked : k ≡ refusal (s .m) (length N) (length T) (length S) (length A)) where

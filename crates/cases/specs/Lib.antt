@@ -1,0 +1,4 @@
+pub mod Case
+pub mod Text
+pub mod Places
+pub mod Replies

@@ -1,0 +1,81 @@
+// The table of contents of a case: its first 22 bytes.
+ghost use mathlib.Core.Path.{_≡_};
+ghost use Prim.Native.Nat.{_+_, _≤_};
+ghost use lib.ListN.{length};
+ghost use Rattle.cases.specs.Case.{word};
+ghost use Rattle.cases.specs.Places.{found};
+
+// Whether to open, m, and where each body behind the key begins. The key begins at 22, and the last body ends at end.
+pub struct Table {
+    pub opens: bool,
+    pub m: usize,
+    pub nonce: usize,
+    pub ad: usize,
+    pub text: usize,
+    pub tag: usize,
+    pub end: usize,
+}
+
+pub enum Found {
+    Bad,
+    Good(Table),
+}
+
+// The number that four bytes are, the lowest first.
+fn word(case: &[u8], at: usize) -> usize
+    requires { ⌜ at + 4 ≤ length (now case) ⌝ }
+    ensures { λ r. ⌜ r ≡ word (now (case .entry)) at ⌝ }
+{
+    case[at] as usize
+        + case[at + 1] as usize * 256
+        + case[at + 2] as usize * 65536
+        + case[at + 3] as usize * 16777216
+}
+
+pub fn find(case: &[u8]) -> Found
+    ensures { λ r. ⌜ r ≡ found (now (case .entry)) ⌝ }
+{
+    if case.len() < 22 {
+        return Found::Bad;
+    }
+    if 1 < case[0] {
+        return Found::Bad;
+    }
+    let key = word(case, 2);
+    if 8192 < key {
+        return Found::Bad;
+    }
+    let nonce = word(case, 6);
+    if 8192 < nonce {
+        return Found::Bad;
+    }
+    let ad = word(case, 10);
+    if 8192 < ad {
+        return Found::Bad;
+    }
+    let text = word(case, 14);
+    if 8192 < text {
+        return Found::Bad;
+    }
+    let tag = word(case, 18);
+    if 8192 < tag {
+        return Found::Bad;
+    }
+    let nonce_at = 22 + key;
+    let ad_at = nonce_at + nonce;
+    let text_at = ad_at + ad;
+    let tag_at = text_at + text;
+    let end = tag_at + tag;
+    if case.len() != end {
+        return Found::Bad;
+    }
+    Found::Good(Table {
+        opens: case[0] == 1,
+        m: case[1] as usize,
+        nonce: nonce_at,
+        ad: ad_at,
+        text: text_at,
+        tag: tag_at,
+        end: end,
+    })
+}
