@@ -1,10 +1,12 @@
--- The round keys of a key of bytes are bytes: word after word.
+-- The round keys of a key are bytes, sixteen for each round and one sixteen more: word after word.
 -- Assumes nothing.
+use mathlib.Core.Path.{_≡_, _∙_}
 use mathlib.Core.Bool.{Bool, true, false}
 use mathlib.Core.List.{List}
-use Prim.Native.Nat.{ℕ, zero, suc, _+_, _-_, _*_, _/_, _%_, _<_}
+use Prim.Native.Nat.{ℕ, zero, suc, _+_, _-_, _*_, _/_, _%_, _<_, _≤_}
+use native.Mathlib.Omega.{arith}
 use lib.Dec.{eqb, ltb, lit<}
-use lib.ListN.{getD}
+use lib.ListN.{length, getD, length-append}
 use Rattle.standards.specs.Strings.{Bytes}
 use Rattle.standards.specs.Fips197.{rcon, rconWord, rotWord, subWord, choose, temp, word, nextWord, schedule, keyExpansion}
 use Rattle.block.proofs.StringLaws.{bytes-append}
@@ -48,6 +50,17 @@ schedule-bytes nk key h (suc n) =
     let w : Bytes (schedule nk key n) = schedule-bytes nk key h n in
     bytes-append (schedule nk key n) _ w (next-bytes nk _ (nk + n) w)
 
+schedule-length : (nk : ℕ) (key : List ℕ) (n : ℕ) → length (schedule nk key n) ≡ length key + 4 * n
+unfolding schedule nextWord
+schedule-length nk key zero = omega arith
+schedule-length nk key (suc n) =
+    let e : length (schedule nk key n) ≡ length key + 4 * n = schedule-length nk key n in
+    length-append (schedule nk key n) (nextWord nk (schedule nk key n) (nk + n)) ∙ omega arith
+
 pub expansion-bytes : (nk nr : ℕ) (key : List ℕ) → Bytes key → Bytes (keyExpansion nk nr key)
 unfolding keyExpansion
 expansion-bytes nk nr key h = schedule-bytes nk key h (4 * (nr + 1) - nk)
+
+pub expansion-length : (nk nr : ℕ) (key : List ℕ) → length key ≡ 4 * nk → nk ≤ 4 * (nr + 1) → length (keyExpansion nk nr key) ≡ 16 * (nr + 1)
+unfolding keyExpansion
+expansion-length nk nr key e l = schedule-length nk key (4 * (nr + 1) - nk) ∙ omega arith

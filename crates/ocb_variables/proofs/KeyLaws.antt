@@ -2,15 +2,19 @@
 -- Each field is its definition; a row of the table is `table-at`. Assumes nothing.
 use mathlib.Core.Path.{_≡_, refl, ap, _∙_}
 use mathlib.Core.List.{List}
-use Prim.Native.Nat.{ℕ}
-use Rattle.standards.specs.Strings.{zeros}
+use Prim.Native.Nat.{ℕ, _≤_}
+use lib.ListN.{length}
+use Rattle.standards.specs.Strings.{zeros, Bytes, Block}
 use Rattle.standards.specs.Rfc7253.{keyed, double}
+use Rattle.block.proofs.StringLaws.{block-zeros}
 use Rattle.ocb_laws.proofs.Agree.{Agrees}
 use Rattle.aes.specs.Cipher.{enc, dec}
+use Rattle.aes.proofs.Promise.{enc-block}
 use Rattle.ocb_variables.specs.declared.State.{State}
 use Rattle.ocb_variables.specs.Held.{held}
 use Rattle.ocb_variables.specs.State.{tableOf, stateOf}
-use Rattle.ocb_variables.proofs.TableLaws.{table-at}
+use Rattle.ocb_variables.proofs.BlockLaws.{double-block}
+use Rattle.ocb_variables.proofs.TableLaws.{table-length, table-bytes, table-at}
 
 pub state-agrees : (rk : List ℕ) (m : ℕ) → Agrees m (held (stateOf rk m)) (keyed (enc 10 rk) (dec 10 rk))
 unfolding stateOf
@@ -21,6 +25,24 @@ state-agrees rk m = record {
   dollar = refl;
   table = table-at (double (enc 10 rk (zeros 16))) m;
 }
+
+-- what the state holds are blocks, and a table of 26 places of bytes
+pub record Sized (s : State) : Type 0 where
+  pub star : Block (s .star)
+  pub dollar : Block (s .dollar)
+  pub table : length (s .table) ≡ 416
+  pub bytes : Bytes (s .table)
+
+pub state-sized : (rk : List ℕ) (m : ℕ) → Bytes rk → m ≤ 26 → Sized (stateOf rk m)
+unfolding stateOf
+state-sized rk m hrk h =
+    let star : List ℕ = enc 10 rk (zeros 16) in
+    record {
+      star = enc-block 10 rk (zeros 16) hrk block-zeros;
+      dollar = double-block star;
+      table = table-length (double star) m h;
+      bytes = table-bytes (double star) m;
+    }
 
 -- the state from its fields, as set-up makes them one after the other
 pub state-made : {star dollar table : List ℕ} (rk : List ℕ) (m : ℕ) → star ≡ enc 10 rk (zeros 16) → dollar ≡ double star → table ≡ tableOf dollar m

@@ -2,15 +2,16 @@
 -- Assumes nothing.
 use mathlib.Core.Path.{_≡_, refl, sym, ap, ap₂, _∙_}
 use mathlib.Core.List.{List, _++_, append-assoc}
-use Prim.Native.Nat.{ℕ, zero, suc, _+_, _*_, _-_, _<_}
+use Prim.Native.Nat.{ℕ, zero, suc, _+_, _*_, _-_, _<_, _≤_}
 use native.Mathlib.Decide.{decLt}
 use native.Mathlib.Nat.{not-suc-le-zero, sub-zero, zero-sub, suc-sub-suc}
 use native.Mathlib.Numerals.{add-one}
 use native.Mathlib.Omega.{arith}
-use lib.ListN.{length, take, drop, length-append}
+use lib.ListN.{length, take, drop, length-append, length-replicate}
 use lib.Seq.{take-at, drop-at, drop-drop}
-use Rattle.standards.specs.Strings.{zeros}
+use Rattle.standards.specs.Strings.{zeros, Bytes}
 use Rattle.standards.specs.Rfc7253.{double, doubled, blockAt}
+use Rattle.block.proofs.StringLaws.{bytes-none, bytes-append, bytes-zeros}
 use Rattle.ocb_variables.specs.State.{rows, tableOf}
 use Rattle.ocb_variables.proofs.BlockLaws.{doubled-block}
 
@@ -21,6 +22,19 @@ unfolding rows
 rows-length d zero = refl
 rows-length d (suc m) =
     length-append (rows d m) (doubled (suc m) d) ∙ omega (arith, rows-length d m, doubled-block m d .size)
+
+rows-bytes : (d : List ℕ) (m : ℕ) → Bytes (rows d m)
+unfolding rows
+rows-bytes d zero = bytes-none
+rows-bytes d (suc m) = bytes-append (rows d m) (doubled (suc m) d) (rows-bytes d m) (doubled-block m d .bytes)
+
+pub table-length : (d : List ℕ) (m : ℕ) → m ≤ 26 → length (tableOf d m) ≡ 416
+unfolding tableOf
+table-length d m h = simp (length-append, length-replicate, rows-length d m) (omega arith)
+
+pub table-bytes : (d : List ℕ) (m : ℕ) → Bytes (tableOf d m)
+unfolding tableOf
+table-bytes d m = bytes-append (rows d m) (zeros (416 - m * 16)) (rows-bytes d m) (bytes-zeros (416 - m * 16))
 
 -- ---- row i, whatever stands behind the rows
 

@@ -1,0 +1,179 @@
+/* Times one engine: measure ENGINE, with ENGINE one of rukensaz, yardstick, openssl, libgcrypt, libgcrypt-plain.
+ * It reads lines "JOB LENGTH COUNT" (JOB: set-up, seal or open) and answers each with "NANOSECONDS DIGEST": the processor time of COUNT
+ * jobs, and a digest of what the last one left, by which bench/run sees that all engines did the same work. Nonces of 12 bytes that count
+ * up, associated data of 4, tags of 16. An open is timed with the copy of the sealed text that it works on. */
+#include "yardstick.h"
+#include <ocb.h>
+#include <stdio.h>
+#include <stdlib.h>
+#include <string.h>
+#include <time.h>
+#ifdef WITH_OPENSSL
+#include <openssl/evp.h>
+#endif
+#ifdef WITH_LIBGCRYPT
+#include <gcrypt.h>
+#endif
+
+static const uint8_t key[16] = {0, 1, 2, 3, 4, 5, 6, 7, 8, 9, 10, 11, 12, 13, 14, 15}, data[4] = {7, 0, 0, 0};
+
+struct engine {
+    const char *name;
+    void (*set_up)(void);
+    void (*seal)(const uint8_t nonce[12], uint8_t *text, size_t length, uint8_t tag[16]);
+    int (*open)(const uint8_t nonce[12], uint8_t *text, size_t length, const uint8_t tag[16]); /* 1 where the tag is the text's */
+};
+
+static void fail(const char *what) {
+    fprintf(stderr, "measure: %s\n", what);
+    exit(1);
+}
+
+/* ---- this project */
+
+static uint8_t state[OCB_STATE_SIZE];
+
+static void own_set_up(void) {
+    if (ocb_set_up(state, sizeof state, key, 16, 26)) fail("ocb_set_up refused");
+}
+static void own_seal(const uint8_t nonce[12], uint8_t *text, size_t length, uint8_t tag[16]) {
+    size_t calls;
+    if (ocb_seal(state, sizeof state, nonce, 12, data, 4, text, length, tag, 16, &calls)) fail("ocb_seal refused");
+}
+static int own_open(const uint8_t nonce[12], uint8_t *text, size_t length, const uint8_t tag[16]) {
+    size_t calls;
+    return ocb_open(state, sizeof state, nonce, 12, data, 4, text, length, tag, 16, &calls) == OCB_DONE;
+}
+
+/* ---- the yardstick */
+
+static struct yardstick yard;
+
+static void yard_set_up(void) { yardstick_set_up(&yard, key); }
+static void yard_seal(const uint8_t nonce[12], uint8_t *text, size_t length, uint8_t tag[16]) {
+    yardstick_seal(&yard, nonce, data, 4, text, length, tag);
+}
+static int yard_open(const uint8_t nonce[12], uint8_t *text, size_t length, const uint8_t tag[16]) {
+    return yardstick_open(&yard, nonce, data, 4, text, length, tag);
+}
+
+/* ---- OpenSSL: the key stays in the context, the nonce is set anew */
+
+#ifdef WITH_OPENSSL
+static EVP_CIPHER_CTX *sealing, *opening;
+
+static void ssl_set_up(void) {
+    EVP_CIPHER_CTX_free(sealing);
+    EVP_CIPHER_CTX_free(opening);
+    sealing = EVP_CIPHER_CTX_new();
+    opening = EVP_CIPHER_CTX_new();
+    if (EVP_EncryptInit_ex(sealing, EVP_aes_128_ocb(), NULL, key, NULL) != 1 || EVP_DecryptInit_ex(opening, EVP_aes_128_ocb(), NULL, key, NULL) != 1)
+        fail("OpenSSL has no AES-128-OCB");
+}
+static void ssl_seal(const uint8_t nonce[12], uint8_t *text, size_t length, uint8_t tag[16]) {
+    int n, m;
+    if (EVP_EncryptInit_ex(sealing, NULL, NULL, NULL, nonce) != 1 || EVP_EncryptUpdate(sealing, NULL, &n, data, 4) != 1 ||
+        EVP_EncryptUpdate(sealing, text, &n, text, (int)length) != 1 || EVP_EncryptFinal_ex(sealing, text + n, &m) != 1 ||
+        EVP_CIPHER_CTX_ctrl(sealing, EVP_CTRL_AEAD_GET_TAG, 16, tag) != 1)
+        fail("OpenSSL refused to seal");
+}
+static int ssl_open(const uint8_t nonce[12], uint8_t *text, size_t length, const uint8_t tag[16]) {
+    int n, m;
+    if (EVP_DecryptInit_ex(opening, NULL, NULL, NULL, nonce) != 1 || EVP_DecryptUpdate(opening, NULL, &n, data, 4) != 1 ||
+        EVP_CIPHER_CTX_ctrl(opening, EVP_CTRL_AEAD_SET_TAG, 16, (void *)tag) != 1 || EVP_DecryptUpdate(opening, text, &n, text, (int)length) != 1)
+        fail("OpenSSL refused to open");
+    return EVP_DecryptFinal_ex(opening, text + n, &m) == 1;
+}
+#endif
+
+/* ---- libgcrypt */
+
+#ifdef WITH_LIBGCRYPT
+static gcry_cipher_hd_t handle;
+
+static void gcrypt_set_up(void) {
+    gcry_cipher_close(handle);
+    if (gcry_cipher_open(&handle, GCRY_CIPHER_AES128, GCRY_CIPHER_MODE_OCB, 0) || gcry_cipher_setkey(handle, key, 16)) fail("libgcrypt has no AES-128-OCB");
+}
+static void gcrypt_start(const uint8_t nonce[12]) {
+    if (gcry_cipher_setiv(handle, nonce, 12) || gcry_cipher_authenticate(handle, data, 4)) fail("libgcrypt refused the nonce");
+    gcry_cipher_final(handle);
+}
+static void gcrypt_seal(const uint8_t nonce[12], uint8_t *text, size_t length, uint8_t tag[16]) {
+    gcrypt_start(nonce);
+    if (gcry_cipher_encrypt(handle, text, length, NULL, 0) || gcry_cipher_gettag(handle, tag, 16)) fail("libgcrypt refused to seal");
+}
+static int gcrypt_open(const uint8_t nonce[12], uint8_t *text, size_t length, const uint8_t tag[16]) {
+    gcrypt_start(nonce);
+    if (gcry_cipher_decrypt(handle, text, length, NULL, 0)) fail("libgcrypt refused to open");
+    return gcry_cipher_checktag(handle, tag, 16) == 0;
+}
+#endif
+
+static const struct engine engines[] = {
+    {"rukensaz", own_set_up, own_seal, own_open},
+    {"yardstick", yard_set_up, yard_seal, yard_open},
+#ifdef WITH_OPENSSL
+    {"openssl", ssl_set_up, ssl_seal, ssl_open},
+#endif
+#ifdef WITH_LIBGCRYPT
+    {"libgcrypt", gcrypt_set_up, gcrypt_seal, gcrypt_open},
+    {"libgcrypt-plain", gcrypt_set_up, gcrypt_seal, gcrypt_open},
+#endif
+};
+
+/* ---- the jobs */
+
+static uint64_t now(void) {
+    struct timespec t;
+    clock_gettime(CLOCK_PROCESS_CPUTIME_ID, &t);
+    return (uint64_t)t.tv_sec * 1000000000u + (uint64_t)t.tv_nsec;
+}
+
+static uint64_t digest(uint64_t d, const uint8_t *bytes, size_t length) { /* FNV-1a */
+    for (size_t i = 0; i < length; i++) d = (d ^ bytes[i]) * 0x100000001b3u;
+    return d;
+}
+
+static void number(uint8_t nonce[12], unsigned i) {
+    memset(nonce, 0, 12);
+    nonce[8] = (uint8_t)(i >> 24), nonce[9] = (uint8_t)(i >> 16), nonce[10] = (uint8_t)(i >> 8), nonce[11] = (uint8_t)i;
+}
+
+int main(int argc, char **argv) {
+    const struct engine *e = NULL;
+    for (size_t i = 0; argc == 2 && i < sizeof engines / sizeof *engines; i++)
+        if (!strcmp(engines[i].name, argv[1])) e = &engines[i];
+    if (!e) fail("this engine was not built in");
+#ifdef WITH_LIBGCRYPT
+    if (!strcmp(e->name, "libgcrypt-plain")) gcry_control(GCRYCTL_DISABLE_HWF, "all", NULL);
+    if (!strncmp(e->name, "libgcrypt", 9) && !gcry_check_version(NULL)) fail("libgcrypt does not start");
+#endif
+    char job[8];
+    size_t length;
+    unsigned count;
+    e->set_up();
+    while (scanf("%7s %zu %u", job, &length, &count) == 3) {
+        uint8_t *text = calloc(length + 1, 1), *sealed = calloc(length + 1, 1), nonce[12], tag[16] = {0};
+        if (!text || !sealed) fail("no memory");
+        number(nonce, 1);
+        if (*job == 'o') e->seal(nonce, sealed, length, tag);
+        uint64_t began = now();
+        for (unsigned i = 1; i <= count; i++) {
+            if (!strcmp(job, "set-up")) {
+                e->set_up();
+            } else if (!strcmp(job, "seal")) {
+                number(nonce, i);
+                e->seal(nonce, text, length, tag);
+            } else {
+                memcpy(text, sealed, length);
+                if (!e->open(nonce, text, length, tag)) fail("a good tag was refused");
+            }
+        }
+        uint64_t took = now() - began;
+        printf("%llu %016llx\n", (unsigned long long)took, (unsigned long long)digest(digest(0xcbf29ce484222325u, text, length), tag, 16));
+        fflush(stdout);
+        free(text), free(sealed);
+    }
+    return 0;
+}

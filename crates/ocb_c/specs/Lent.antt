@@ -1,0 +1,43 @@
+-- What the exported functions answer and leave, for every input: the entry points' answers (ocb/specs/Answers.antt) over the state that a lent buffer
+-- holds, and one number of their own.
+use mathlib.Core.Path.{_≡_}
+use mathlib.Core.Bool.{not}
+use mathlib.Core.List.{List, [], _∷_}
+use Prim.Native.Nat.{ℕ, zero, suc}
+use lib.Dec.{eqb}
+use lib.ListN.{length}
+use Rattle.ocb.specs.declared.SetUp.{SetUp}
+use Rattle.ocb_numbers.specs.Numbers.{_if_, first}
+use Rattle.ocb.specs.Answers.{setUp, Outcome, unless, sealed, opened}
+use Rattle.ocb_c.specs.Buffer.{stateSize, encoded, decoded}
+
+-- 40 where the buffer has not the size of a state. It goes before every other number: such a buffer holds no state to look at, and no place for one.
+unfoldable pub sizeNumber : List ℕ → ℕ
+sizeNumber B = first ((40 if not (eqb (length B) stateSize)) ∷ [])
+
+-- ---- set up
+
+pub record InBuffer : Type 0 where
+  pub number : ℕ
+  pub buffer : List ℕ
+
+-- a buffer of the right size takes the state of every set-up, the zeros of a refused one too; another is left as it is
+abbrev pub into : ℕ → List ℕ → SetUp → InBuffer
+into zero B u = record { number = u .number; buffer = encoded (u .state) }
+into (suc n) B u = record { number = suc n; buffer = B }
+
+unfoldable pub setUpIn : List ℕ → List ℕ → ℕ → InBuffer
+setUpIn B key m = into (sizeNumber B) B (setUp key m)
+
+-- THE PROMISE of ocb_set_up: the number, and the buffer B' that is left, are the outcome's
+pub record Kept (o : InBuffer) (number : ℕ) (B' : List ℕ) : Type 0 where
+  pub number-is : number ≡ o .number
+  pub buffer-left : B' ≡ o .buffer
+
+-- ---- seal and open, under the state that the buffer B holds; their promise is ocb's `Leaves`
+
+unfoldable pub sealedIn : List ℕ → List ℕ → List ℕ → List ℕ → List ℕ → Outcome
+sealedIn B N A P T = unless (sizeNumber B) P T (sealed (decoded B) N A P T)
+
+unfoldable pub openedIn : List ℕ → List ℕ → List ℕ → List ℕ → List ℕ → Outcome
+openedIn B N A C T = unless (sizeNumber B) C T (opened (decoded B) N A C T)
