@@ -1,6 +1,5 @@
 -- `ocb_c::refuse_size` meets its contract: the test is the definition's. Assumes nothing.
 use Rattle.ocb_c.proofs.LentLaws.{size-wrong, size-right}
-use borrow.Author.Needs.{needs}
 use Rattle.ocb_c.proofs.refuse_size.Statement.{statement}
 use Rattle.ocb_c.proofs.refuse_size.Tie as tie
 
