@@ -1,6 +1,6 @@
 -- `ocb_c::decode` meets its contract: each field is read where it lies. Assumes nothing.
-use Rattle.ocb_c.proofs.BufferLaws.{decode-made}
 use borrow.Author.Needs.{needs}
+use Rattle.ocb_c.proofs.BufferLaws.{decode-made}
 use Rattle.ocb_c.proofs.decode.Statement.{statement}
 use Rattle.ocb_c.proofs.decode.Tie as tie
 

@@ -1,9 +1,9 @@
 -- `ocb_c::encode` meets its contract: its five parts are written one behind the other. Assumes nothing.
 use mathlib.Core.Path.{_≡_, refl, sym, _∙_}
 use native.Mathlib.Omega.{arith}
+use borrow.Author.Needs.{needs}
 use lib.ListN.{length, length-append, length-take, length-drop}
 use Rattle.ocb_c.proofs.BufferLaws.{Sizes, encode-made}
-use borrow.Author.Needs.{needs}
 use Rattle.ocb_c.proofs.encode.Statement.{statement}
 use Rattle.ocb_c.proofs.encode.Tie as tie
 

@@ -1,7 +1,7 @@
 -- `ocb_c::ocb_set_up` meets its contract: the buffer's size is refused, or the state that the entry point gives is written over it. Assumes nothing.
 use mathlib.Core.Path.{sym, _∙_}
-use Rattle.ocb_c.proofs.LentLaws.{admitted, set-up-refused, set-up-done}
 use borrow.Author.Needs.{needs}
+use Rattle.ocb_c.proofs.LentLaws.{admitted, set-up-refused, set-up-done}
 use Rattle.ocb_c.proofs.ocb_set_up.Statement.{statement}
 use Rattle.ocb_c.proofs.ocb_set_up.Tie as tie
 
