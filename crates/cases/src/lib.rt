@@ -7,9 +7,11 @@ use ocb::Answer;
 use table::Found;
 use table::Table;
 ghost use mathlib.Core.Path.{_≡_};
+ghost use Prim.Native.Nat.{_+_, _≤_};
+ghost use lib.ListN.{length};
 ghost use Rattle.io.specs.Counts.{Counts};
 ghost use Rattle.ocb.specs.Answers.{Leaves, setUp};
-ghost use Rattle.cases.specs.Case.{after, decode};
+ghost use Rattle.cases.specs.Case.{word, after, decode};
 ghost use Rattle.cases.specs.Places.{Within, Room, caseAt};
 ghost use Rattle.cases.specs.Replies.{Lays, Left, result, Responds};
 
@@ -23,6 +25,19 @@ pub enum Reply {
         text: usize,
         tag: usize,
     },
+}
+
+// The number that four bytes of s from place at on are, the lowest first; 0 where there are not so many.
+pub fn number_at(s: &[u8], at: usize) -> usize
+    ensures { λ r. ⌜ (at + 4 ≤ length (now (s .entry)) → r ≡ word (now (s .entry)) at) ⌝ }
+{
+    if s.len() < 4 {
+        return 0;
+    }
+    if s.len() - 4 < at {
+        return 0;
+    }
+    table::word(s, at)
 }
 
 // Answers a case whose bodies are lent apart: sets up, then opens or seals the text where it lies.

@@ -22,7 +22,7 @@ pub enum Found {
 }
 
 // The number that four bytes are, the lowest first.
-fn word(case: &[u8], at: usize) -> usize
+pub fn word(case: &[u8], at: usize) -> usize
     requires { ⌜ at + 4 ≤ length (now case) ⌝ }
     ensures { λ r. ⌜ r ≡ word (now (case .entry)) at ⌝ }
 {
