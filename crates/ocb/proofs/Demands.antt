@@ -193,7 +193,7 @@ seal-opens s h N A P T N-bytes P-bytes {r} {C} {T'} L e {q} {P'} {T''} M =
 pub set-up-single : (k : List ℕ) (m : ℕ) (u v : SetUp) → u ≡ setUp k m → v ≡ setUp k m → u ≡ v
 set-up-single k m u v p q = p ∙ sym q
 
-single : (o : Outcome) (r q : Answer) {S T S' T' : List ℕ} → Leaves o r S T → Leaves o q S' T' → (r ≡ q) × (S ≡ S') × (T ≡ T')
+pub single : (o : Outcome) (r q : Answer) {S T S' T' : List ℕ} → Leaves o r S T → Leaves o q S' T' → (r ≡ q) × (S ≡ S') × (T ≡ T')
 single o r q L M = (
   λ i. record { number = (L .number ∙ sym (M .number)) i; calls = (L .calls ∙ sym (M .calls)) i },
   L .text-left ∙ sym (M .text-left),

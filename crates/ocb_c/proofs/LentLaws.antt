@@ -20,8 +20,9 @@ use Rattle.ocb_numbers.specs.Numbers.{choose, setUpNumber}
 use Rattle.ocb_numbers.proofs.Refusals.{set-up-sizes}
 use Rattle.ocb.specs.Answers.{refusedSetUp, madeUnless, setUp, Outcome, unless, Leaves}
 use Rattle.ocb.proofs.Outcomes.{by-number, by-none}
+use Rattle.ocb.proofs.Demands.{single}
 use Rattle.ocb_c.specs.Buffer.{encoded, decoded}
-use Rattle.ocb_c.specs.Lent.{sizeNumber, into, setUpIn, Kept}
+use Rattle.ocb_c.specs.Lent.{sizeNumber, into, setUpIn, Kept, sealedIn, openedIn}
 use Rattle.ocb_c.proofs.BufferLaws.{Sizes, decode-encode}
 
 -- ---- the buffer's size
@@ -102,3 +103,15 @@ unfolding setUpIn
 set-up-held B key m hk h =
     ap (λ (n : ℕ). decoded (into n B (setUp key m) .buffer)) (sym (size-right B h))
     ∙ decode-encode (setUp key m .state) (state-sizes key m hk)
+
+-- ---- each promise admits one answer
+
+pub set-up-single : (B key : List ℕ) (m n k : ℕ) {B₁ B₂ : List ℕ} → Kept (setUpIn B key m) n B₁ → Kept (setUpIn B key m) k B₂ → (n ≡ k) × (B₁ ≡ B₂)
+set-up-single B key m n k K L = (K .number-is ∙ sym (L .number-is), K .buffer-left ∙ sym (L .buffer-left))
+
+module _ (B N A S T : List ℕ) (r q : Answer) {S₁ T₁ S₂ T₂ : List ℕ} where
+  pub seal-single : Leaves (sealedIn B N A S T) r S₁ T₁ → Leaves (sealedIn B N A S T) q S₂ T₂ → (r ≡ q) × (S₁ ≡ S₂) × (T₁ ≡ T₂)
+  seal-single = single (sealedIn B N A S T) r q
+
+  pub open-single : Leaves (openedIn B N A S T) r S₁ T₁ → Leaves (openedIn B N A S T) q S₂ T₂ → (r ≡ q) × (S₁ ≡ S₂) × (T₁ ≡ T₂)
+  open-single = single (openedIn B N A S T) r q
