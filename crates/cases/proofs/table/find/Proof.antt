@@ -1,6 +1,6 @@
 -- `cases::table::find` meets its contract: each test that returns early is a flaw, and without any the places are those of the lengths read.
 -- Assumes nothing.
-use mathlib.Core.Path.{_≡_, sym, ap, subst, _∙_}
+use mathlib.Core.Path.{ap, subst, _∙_}
 use mathlib.Core.Bool.{not}
 use mathlib.Core.List.{List}
 use Prim.Native.Nat.{ℕ, _<_}
