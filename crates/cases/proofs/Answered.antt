@@ -2,18 +2,18 @@
 use mathlib.Core.Path.{_≡_, refl, sym, ap, subst, _∙_}
 use mathlib.Core.Bool.{Bool, true, false, cond, _&&_}
 use mathlib.Core.List.{List}
-use Prim.Native.Nat.{ℕ, _+_, _-_, _≤_, _<_}
+use Prim.Native.Nat.{ℕ, _+_, _-_, _<_}
 use native.Mathlib.Nat.{add-sub-cancel-left}
 use native.Mathlib.Omega.{arith}
 use borrow.Author.Tests.{le-leb, lt-leb}
 use lib.Dec.{leb}
 use lib.ListN.{length}
 use Rattle.ocb.specs.declared.Answer.{Answer}
-use Rattle.cases.specs.Case.{word, Lengths, lengths, malformed, Case, bodies, Decoded, bad, good, decode}
+use Rattle.cases.specs.Case.{word, Lengths, lengths, bodies, Decoded, bad, good, decode}
 use Rattle.cases.specs.Places.{places, found, caseAt, Within, Room}
-use Rattle.cases.specs.Replies.{Lays, Result, room, laid, result, Left}
+use Rattle.cases.specs.Replies.{Lays, room, laid, result, Left}
 use Rattle.cases.specs.declared.table.Table.{Table}
-use Rattle.cases.specs.declared.table.Found.the-variants.{Bad, Good}
+use Rattle.cases.specs.declared.table.Found.the-variants.{Bad}
 use Rattle.cases.specs.declared.Reply.{Reply}
 use Rattle.cases.specs.declared.Reply.the-variants as reply
 use Rattle.cases.proofs.Placed.{Placed, is-bad}

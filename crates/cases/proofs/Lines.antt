@@ -1,10 +1,10 @@
 -- How long the lines of an answer are. Assumes nothing.
-use mathlib.Core.List.{List, _++_}
+use mathlib.Core.List.{List}
 use Prim.Native.Nat.{ℕ, _+_, _*_, _≤_}
 use mathlib.Core.Path.{_≡_}
 use native.Mathlib.Omega.{arith}
 use lib.ListN.{length, length-append}
-use Rattle.cases.specs.Text.{decimal, answerWord, callsWord, newline, hex, numbersLine, hexLine}
+use Rattle.cases.specs.Text.{numbersLine, hexLine}
 use Rattle.cases.proofs.Decimal.{decimal-length}
 use Rattle.cases.proofs.Over.{hex-length}
 

@@ -1,15 +1,14 @@
 -- What a table that was found says of its case: it is of good form, and its places are in order and within it. Assumes nothing.
-use mathlib.Core.Path.{_≡_, refl, sym, ap, ap₂, _∙_}
+use mathlib.Core.Path.{_≡_, refl}
 use mathlib.Core.Bool.{Bool, true, false, cond, _||_}
 use mathlib.Core.List.{List, [], _∷_}
-use Prim.Native.Nat.{ℕ, zero, suc, _+_, _≤_}
+use Prim.Native.Nat.{ℕ, zero, suc}
 use native.Mathlib.Omega.{arith}
 use borrow.Author.Tests.{ltb-false, eqb-true, not-false}
-use lib.ListN.{length, getD}
+use lib.ListN.{getD}
 use Rattle.cases.specs.Case.{lengths, flaws, any, malformed}
 use Rattle.cases.specs.Places.{places, found}
 use Rattle.cases.specs.declared.table.Table.{Table}
-use Rattle.cases.specs.declared.table.Found.{Found}
 use Rattle.cases.specs.declared.table.Found.the-variants.{Bad, Good}
 use Rattle.cases.proofs.Flaws.{Formed}
 

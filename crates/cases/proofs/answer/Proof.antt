@@ -1,8 +1,5 @@
 -- `cases::answer` meets its contract: what table::find found is bad or places the bodies, and the buffers have room or not. Assumes nothing.
 use mathlib.Core.Path.{sym, _∙_}
-use mathlib.Core.List.{List}
-use Prim.Native.Nat.{ℕ}
-use native.Mathlib.Omega.{arith}
 use borrow.Author.Needs.{needs}
 use Rattle.cases.proofs.Placed.{is-good}
 use Rattle.cases.proofs.Answered.{within, answered-bad, no-text-room, no-tag-room, answered}

@@ -1,5 +1,5 @@
 -- `cases::write::put_decimal` meets its contract: the digits that `io::decimal` gives are the definition's. Assumes nothing.
-use mathlib.Core.Path.{_≡_, sym, subst, _∙_}
+use mathlib.Core.Path.{subst, _∙_}
 use mathlib.Core.List.{List}
 use Prim.Native.Nat.{ℕ}
 use native.Mathlib.Omega.{arith}
