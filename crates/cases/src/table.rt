@@ -16,6 +16,7 @@ pub struct Table {
     pub end: usize,
 }
 
+// What a case is: of bad form, or with its bodies at the places of a table.
 pub enum Found {
     Bad,
     Good(Table),
@@ -32,6 +33,7 @@ pub fn word(case: &[u8], at: usize) -> usize
         + case[at + 3] as usize * 16777216
 }
 
+// Reads the table and holds it to the bytes that there are.
 pub fn find(case: &[u8]) -> Found
     ensures { λ r. ⌜ r ≡ found (now (case .entry)) ⌝ }
 {

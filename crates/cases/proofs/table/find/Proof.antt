@@ -70,7 +70,7 @@ add-end c = search needs
 returns-8 : tie.Need-returns-8
 returns-8 c =
     let S : List ℕ = c .before .before .before .before .before .before .before .before .before .before .before .before .before .before .before .args .case .now in
-    bad S 7 (ap not (ne-eqb (length S) (total (lengths S)) (λ e. c .if8 .taken (omega (arith, e)))))
+    bad S 7 (ap not (ne-eqb (length S) (total (lengths S)) (λ e. omega arith)))
 
 shared-slice-read-t15 : tie.Need-shared-slice-read-t15
 shared-slice-read-t15 c = search needs
