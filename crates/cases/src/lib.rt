@@ -7,7 +7,7 @@ use ocb::Answer;
 use table::Found;
 use table::Table;
 ghost use mathlib.Core.Path.{_≡_};
-ghost use Prim.Native.Nat.{_+_, _≤_};
+ghost use Prim.Native.Nat.{_+_, _≤_, _<_};
 ghost use lib.ListN.{length};
 ghost use Rattle.io.specs.Counts.{Counts};
 ghost use Rattle.ocb.specs.Answers.{Leaves, setUp};
@@ -29,7 +29,7 @@ pub enum Reply {
 
 // The number that four bytes of s from place at on are, the lowest first; 0 where there are not so many.
 pub fn number_at(s: &[u8], at: usize) -> usize
-    ensures { λ r. ⌜ (at + 4 ≤ length (now (s .entry)) → r ≡ word (now (s .entry)) at) ⌝ }
+    ensures { λ r. ⌜ (at + 4 ≤ length (now (s .entry)) → r ≡ word (now (s .entry)) at) × (length (now (s .entry)) < at + 4 → r ≡ 0) ⌝ }
 {
     if s.len() < 4 {
         return 0;
