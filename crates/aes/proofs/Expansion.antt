@@ -1,14 +1,14 @@
 -- The round keys of a key are bytes, sixteen for each round and one sixteen more: word after word.
 -- Assumes nothing.
 use mathlib.Core.Path.{_≡_, _∙_}
-use mathlib.Core.Bool.{Bool, true, false}
+use mathlib.Core.Bool.{Bool, true, false, cond}
 use mathlib.Core.List.{List}
 use Prim.Native.Nat.{ℕ, zero, suc, _+_, _-_, _*_, _/_, _%_, _<_, _≤_}
 use native.Mathlib.Omega.{arith}
 use lib.Dec.{eqb, ltb, lit<}
 use lib.ListN.{length, getD, length-append}
 use Rattle.standards.specs.Strings.{Bytes}
-use Rattle.standards.specs.Fips197.{rcon, rconWord, rotWord, subWord, choose, temp, word, nextWord, schedule, keyExpansion}
+use Rattle.standards.specs.Fips197.{rcon, rconWord, rotWord, subWord, temp, word, nextWord, schedule, keyExpansion}
 use Rattle.block.proofs.StringLaws.{bytes-append}
 use Rattle.field.proofs.FieldLaws.{xtime-below}
 use Rattle.field.proofs.BoxLaws.{sbox-below}
@@ -28,15 +28,15 @@ rot-bytes a h = at-four (λ x. x < 256) (h 1) (h 2) (h 3) (h 0) (lit< tt)
 sub-bytes : (a : List ℕ) → Bytes a → Bytes (subWord a)
 sub-bytes a h = column-bytes _ (λ r. sbox-below (getD a r 0) (h r))
 
-choose-bytes : (t : Bool) (a b : List ℕ) → Bytes a → Bytes b → Bytes (choose t a b)
-choose-bytes true a b ha hb = ha
-choose-bytes false a b ha hb = hb
+cond-bytes : (t : Bool) (a b : List ℕ) → Bytes a → Bytes b → Bytes (cond t a b)
+cond-bytes true a b ha hb = ha
+cond-bytes false a b ha hb = hb
 
 temp-bytes : (nk i : ℕ) (t : List ℕ) → Bytes t → Bytes (temp nk i t)
 temp-bytes nk i t h =
-    choose-bytes (eqb (i % nk) 0) _ _
+    cond-bytes (eqb (i % nk) 0) _ _
     (add-bytes (subWord (rotWord t)) (rconWord (i / nk)) (sub-bytes (rotWord t) (rot-bytes t h)) (rcon-bytes (i / nk)))
-    (choose-bytes (ltb 6 nk) _ _ (choose-bytes (eqb (i % nk) 4) _ _ (sub-bytes t h) h) h)
+    (cond-bytes (ltb 6 nk) _ _ (cond-bytes (eqb (i % nk) 4) _ _ (sub-bytes t h) h) h)
 
 next-bytes : (nk : ℕ) (w : List ℕ) (i : ℕ) → Bytes w → Bytes (nextWord nk w i)
 unfolding nextWord

@@ -4,6 +4,5 @@ pub mod NumberLaws
 pub mod StringLaws
 pub mod NtzLaws
 pub mod DoubleLaws
-pub mod Readings
 pub mod Literals
 pub mod Owned

@@ -9,7 +9,7 @@ use Rattle.standards.specs.Fips197.{keyExpansion}
 use Rattle.standards.specs.Rfc7253.{Key, keyed, double, doubled, blockAt, Offset-0}
 use Rattle.standards.specs.AesOcb.{AES-128}
 use Rattle.block.proofs.StringLaws.{bytes-take, bytes-drop, block-zeros}
-use Rattle.block.proofs.Readings.{offset-same}
+use Rattle.ocb_laws.proofs.Readings.{offset-same}
 use Rattle.aes.specs.Cipher.{enc, dec}
 use Rattle.aes.specs.Cipher.Body.{enc-is, dec-is}
 use Rattle.aes.proofs.Promise.{enc-block, dec-block, dec-enc, enc-dec}

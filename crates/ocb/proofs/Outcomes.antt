@@ -7,9 +7,10 @@ use Prim.Native.Nat.{ℕ, zero, suc, _+_, _/_}
 use lib.ListN.{length, take, drop}
 use lib.Seq.{take-at, drop-at}
 use Rattle.standards.specs.Strings.{zeros, Bytes, Block}
-use Rattle.standards.specs.Rfc7253.{Key, Plaintext, Offset-0, initialOffset, sealBlock, openBlock, text, endOffset, sealSum, openSum, Tag, same, validIf, OCB-ENCRYPT, OCB-DECRYPT}
+use Rattle.standards.specs.Rfc7253.{Key, Plaintext, Offset-0, sealBlock, openBlock, text, endOffset, sealSum, openSum, Tag, same, validIf, OCB-ENCRYPT, OCB-DECRYPT}
+use Rattle.standards.specs.InBytes.{initialOffset}
 use Rattle.standards.specs.Rfc7253 as rfc
-use Rattle.block.proofs.Readings.{offset-same}
+use Rattle.ocb_laws.proofs.Readings.{offset-same}
 use Rattle.aes.proofs.Promise.{enc-block}
 use Rattle.ocb_laws.proofs.RoundTrip.{decrypt-split}
 use Rattle.ocb_laws.proofs.Calls.{encrypt-calls, decrypt-calls}

@@ -4,7 +4,8 @@ use mathlib.Core.Bool.{Bool}
 use mathlib.Core.List.{List}
 use Prim.Native.Nat.{ℕ}
 use lib.ListN.{length, take}
-use Rattle.standards.specs.Rfc7253.{Key, initialOffset, sealBlock, openBlock, text, endOffset, sealSum, openSum, Tag, same}
+use Rattle.standards.specs.Rfc7253.{Key, sealBlock, openBlock, text, endOffset, sealSum, openSum, Tag, same}
+use Rattle.standards.specs.InBytes.{initialOffset}
 
 -- C and T' are left of the text P and the tag place T
 pub record Encrypted (K : Key) (N A P T C T' : List ℕ) : Type 0 where

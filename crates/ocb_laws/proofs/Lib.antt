@@ -4,3 +4,4 @@ pub mod Undo
 pub mod RoundTrip
 pub mod Calls
 pub mod Agree
+pub mod Readings

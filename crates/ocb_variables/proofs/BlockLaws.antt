@@ -4,7 +4,8 @@ use mathlib.Core.List.{List}
 use Prim.Native.Nat.{ℕ, suc}
 use lib.Dec.{lit<}
 use Rattle.standards.specs.Strings.{toBytes, Block}
-use Rattle.standards.specs.Rfc7253.{Key, double, doubled, cutOf, initialOffset}
+use Rattle.standards.specs.Rfc7253.{Key, double, doubled}
+use Rattle.standards.specs.InBytes.{cutOf, initialOffset}
 use Rattle.block.proofs.NumberLaws.{digits-length, digits-below}
 
 bytes-block : (n : ℕ) → Block (toBytes 16 n)

@@ -11,7 +11,7 @@ use lib.Dec.{lit<}
 use lib.ListN.{length, take, drop, getD, set, List·getD-append, drop-of-length-le, length-append, length-drop, length-replicate}
 use lib.Seq.{getD-take, getD-drop, length-take-le, take-length, take-all, take-at, set-append-left, paste, paste-suc}
 use Rattle.standards.specs.Strings.{_⊕_, _xor_, zeros}
-use Rattle.standards.specs.Rfc7253.{nonceFront, nonceBlock, bottomOf, topOf, stretchOf, cutOf, initialOffset}
+use Rattle.standards.specs.InBytes.{nonceFront, nonceBlock, bottomOf, topOf, stretchOf, cutOf, initialOffset}
 use Rattle.block.proofs.StringLaws.{xor-length, xor-at}
 use Rattle.aes.specs.Cipher.{enc}
 use Rattle.ocb_variables.specs.declared.NonceVariables.{NonceVariables}

@@ -11,7 +11,7 @@ use lib.ListN.{length, take, drop, length-drop}
 use lib.Pow.{pow-pos, pow-add, high, low, mod-pow-add, shr-lt, shr-shr, shl-shr, field, mod-mod-pow}
 use lib.Seq.{take-all, take-add, take-at, drop-at, length-take-le}
 use Rattle.standards.specs.Strings.{num, toBytes, zeros, Bytes}
-use Rattle.standards.specs.Rfc7253.{cutOf}
+use Rattle.standards.specs.InBytes.{cutOf}
 use Rattle.block.proofs.StringLaws.{bytes-take, bytes-drop}
 use Rattle.block.proofs.NumberLaws.{number-append, number-below, digits-length, digits-append, digits-low}
 use Rattle.ocb_variables.specs.Nonce.{bitsFrom}

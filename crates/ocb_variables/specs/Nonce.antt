@@ -1,7 +1,7 @@
 -- What depends on the nonce (RFC 7253, section 4.2), under the cipher of round keys rk. t is the tag's length in bytes.
 use mathlib.Core.List.{List}
 use Prim.Native.Nat.{ℕ, _+_, _-_, _*_, _/_, _%_, _^_, _≤_}
-use Rattle.standards.specs.Rfc7253.{nonceBlock, bottomOf, topOf, stretchOf}
+use Rattle.standards.specs.InBytes.{nonceBlock, bottomOf, topOf, stretchOf}
 use Rattle.aes.specs.Cipher.{enc}
 use Rattle.ocb_variables.specs.declared.NonceVariables.{NonceVariables}
 

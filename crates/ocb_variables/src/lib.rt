@@ -4,7 +4,7 @@ ghost use mathlib.Core.Path.{_≡_};
 ghost use mathlib.Core.List.{List};
 ghost use Prim.Native.Nat.{ℕ, _≤_, _<_};
 ghost use lib.ListN.{length};
-ghost use Rattle.standards.specs.Rfc7253.{nonceBlock, stretchOf, cutOf, initialOffset};
+ghost use Rattle.standards.specs.InBytes.{nonceBlock, stretchOf, cutOf, initialOffset};
 ghost use Rattle.field.specs.Tables.{sboxTable};
 ghost use Rattle.ocb_variables.specs.State.{tableOf, stateOf};
 ghost use Rattle.ocb_variables.specs.Held.{stateKey};

@@ -7,7 +7,8 @@ use lib.Count.{trailingZeros}
 use lib.ListN.{length, getD, replicate}
 use Rattle.standards.specs.Strings.{_⊕_, _xor_, digits, number, zeros, bits, bytes}
 use Rattle.standards.specs.Fips197.{xtime, times, _•_, power, inverse, affine, sbox}
-use Rattle.standards.specs.Rfc7253.{ntz, double, Key, Nonce, bottom, Stretch, cut, nonceFront, nonceBlock, bottomOf, stretchOf, cutOf, wholes, rest, Inputs, lastInput, lastHashInput, HASH-inputs, inputs, OCB-ENCRYPT-inputs}
+use Rattle.standards.specs.Rfc7253.{ntz, double, Key, Nonce, bottom, Stretch, cut, wholes, rest, Inputs, lastInput, lastHashInput, HASH-inputs, inputs, OCB-ENCRYPT-inputs}
+use Rattle.standards.specs.InBytes.{nonceFront, nonceBlock, bottomOf, stretchOf, cutOf}
 
 pub record Row : Type 0 where
   pub question : List ℕ

@@ -1,5 +1,5 @@
 -- FIPS 197 (update 1 of 2023), the Advanced Encryption Standard, for a key of nk words and a cipher of nr rounds. Numbers in brackets are its sections.
-use mathlib.Core.Bool.{Bool, true, false}
+use mathlib.Core.Bool.{cond}
 use mathlib.Core.List.{List, [], _∷_, _++_}
 use Prim.Native.Nat.{ℕ, zero, suc, _+_, _-_, _*_, _/_, _%_, _^_}
 use lib.Dec.{eqb, ltb}
@@ -197,15 +197,11 @@ rotWord a = getD a 1 0 ∷ getD a 2 0 ∷ getD a 3 0 ∷ getD a 0 0 ∷ []
 abbrev pub subWord : List ℕ → List ℕ
 subWord = eachByte sbox
 
-abbrev pub choose : Bool → List ℕ → List ℕ → List ℕ
-choose true a b = a
-choose false a b = b
-
 -- temp, of w[i-1]: turned at each multiple of nk and, for keys of more than six words, only substituted four words behind one
 abbrev pub temp : ℕ → ℕ → List ℕ → List ℕ
 temp nk i t =
-    choose (eqb (i % nk) 0) (addColumn (subWord (rotWord t)) (rconWord (i / nk)))
-    (choose (ltb 6 nk) (choose (eqb (i % nk) 4) (subWord t) t) t)
+    cond (eqb (i % nk) 0) (addColumn (subWord (rotWord t)) (rconWord (i / nk)))
+    (cond (ltb 6 nk) (cond (eqb (i % nk) 4) (subWord t) t) t)
 
 -- w[i] = w[i-nk] + temp
 unfoldable pub nextWord : ℕ → List ℕ → ℕ → List ℕ

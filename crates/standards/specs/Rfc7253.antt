@@ -3,10 +3,9 @@
 use mathlib.Core.Bool.{Bool, true, false, _&&_}
 use mathlib.Core.List.{List, [], _∷_, _++_}
 use Prim.Native.Nat.{ℕ, zero, suc, _+_, _-_, _*_, _/_, _%_, _^_}
-use lib.Bits.{bitOr}
 use lib.Count.{trailingZeros}
 use lib.Dec.{eqb}
-use lib.ListN.{length, getD, take, drop, set}
+use lib.ListN.{length, take, drop}
 use Rattle.standards.specs.Strings.{_⊕_, _xor_, zeros, num2str, str2num, toBytes, num, bits, bytes, part}
 
 -- ---- [2] Notation
@@ -42,7 +41,7 @@ keyed E D = record {
   L = λ i. doubled (suc i) (double (E (zeros 16)));
 }
 
--- ---- [4.2] Nonce-dependent variables, in bits
+-- ---- [4.2] Nonce-dependent variables. They are strings of bits; InBytes.antt says them in bytes, as the code has them
 
 -- Nonce = num2str(TAGLEN mod 128, 7) || zeros(120 - bitlen(N)) || 1 || N
 unfoldable pub Nonce : ℕ → List ℕ → List ℕ
@@ -67,35 +66,6 @@ cut Stretch bottom = bytes (part Stretch (1 + bottom) (128 + bottom))
 -- Offset_0, with Ktop = ENCIPHER(K, Nonce[1..122] || zeros(6))
 unfoldable pub Offset-0 : Key → ℕ → List ℕ → List ℕ
 Offset-0 K t N = cut (Stretch (K .ENCIPHER (top t N))) (bottom t N)
-
--- ---- The same in bytes
-
--- twice (8 t mod 128), zeros, and the nonce; the byte before the nonce has its lowest bit set
-unfoldable pub nonceFront : ℕ → ℕ → List ℕ
-nonceFront t n =
-    let front : List ℕ = 8 * t % 128 * 2 ∷ zeros (15 - n) in
-    set front (15 - n) (bitOr (getD front (15 - n) 0) 1)
-
-unfoldable pub nonceBlock : ℕ → List ℕ → List ℕ
-nonceBlock t N = nonceFront t (length N) ++ N
-
--- the low six bits of byte 15; the block with them cleared
-unfoldable pub bottomOf : List ℕ → ℕ
-bottomOf b = getD b 15 0 % 64
-
-unfoldable pub topOf : List ℕ → List ℕ
-topOf b = set b 15 (getD b 15 0 / 64 * 64)
-
--- Ktop, then each of its bytes 0 to 7 xored with its right neighbour
-unfoldable pub stretchOf : List ℕ → List ℕ
-stretchOf Ktop = Ktop ++ (take 8 Ktop xor take 8 (drop 1 Ktop))
-
--- the 128 bits behind the first `bottom` of Stretch's 192
-unfoldable pub cutOf : List ℕ → ℕ → List ℕ
-cutOf stretch bottom = toBytes 16 (num stretch / 2 ^ (64 - bottom) % 2 ^ 128)
-
-unfoldable pub initialOffset : Key → ℕ → List ℕ → List ℕ
-initialOffset K t N = cutOf (stretchOf (K .ENCIPHER (topOf (nonceBlock t N)))) (bottomOf (nonceBlock t N))
 
 -- ---- Strings as blocks: S is S_1 || .. || S_m || S_*
 

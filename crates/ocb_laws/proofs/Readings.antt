@@ -12,10 +12,11 @@ use lib.ListN.{length, getD, take, drop, set, length-append, length-drop, length
 use lib.Pow.{pow-add, shr-lt}
 use lib.Seq.{take-all, take-at, drop-at, take-nil, drop-nil, take-suc, set-split, length-take-le, take-append-add, drop-append-add}
 use Rattle.standards.specs.Strings.{_⊕_, _xor_, zeros, digits, number, num2str, str2num, toBytes, num, bits, bytes, part, Bytes, Block}
-use Rattle.standards.specs.Rfc7253.{Key, Nonce, bottom, top, Stretch, cut, Offset-0, nonceFront, nonceBlock, bottomOf, topOf, stretchOf, cutOf, initialOffset, same}
+use Rattle.standards.specs.Rfc7253.{Key, Nonce, bottom, top, Stretch, cut, Offset-0, same}
+use Rattle.standards.specs.InBytes.{nonceFront, nonceBlock, bottomOf, topOf, stretchOf, cutOf, initialOffset}
 use Rattle.block.proofs.NumberLaws.{Digits, below-append, number-append, number-last, number-below, digits-length, digits-append, digits-below, number-digits, digits-number}
 use Rattle.block.proofs.StringLaws.{same-equal, xor-append, xor-length, bytes-append, bytes-cons, bytes-set, bytes-take, bytes-drop, bytes-xor, bytes-zeros}
 use Rattle.block.proofs.Tests.{each, below}
 
 two-positive : 0 < 2
 two-positive = lit< tt
