@@ -7,7 +7,7 @@ use native.Mathlib.Nat.{le-div-iff-mul-le, div-lt-iff-lt-mul, le-of-suc-le-suc}
 use native.Mathlib.Numerals.{add-one, add-two, add-three}
 use native.Mathlib.Omega.{arith}
 use lib.ListN.{length, getD, take, drop, set, length-append}
-use lib.Seq.{sets-eq, take-at, getD-take, take-suc, take-suc-set, length-take-le}
+use lib.Seq.{sets-eq, take-all, take-at, getD-take, length-take-le}
 use borrow.Author.Tests.{eq-eqb, ne-eqb, lt-ltb, le-ltb}
 use Rattle.standards.specs.Fips197.{word, addColumn, rotWord, subWord, rconWord, temp, nextWord, schedule}
 
@@ -67,9 +67,8 @@ key-turn nk key i w w' v h k e q p =
     p ∙ ap₂ _++_ e (q ∙ sym (next-take nk w i h k) ∙ ap₂ (nextWord nk) e n) ∙ grown nk key (i - nk) ∙ ap (schedule nk key) s
 
 -- ---- the key is copied
-pub copy-turn : (key w : List ℕ) (k : ℕ) → k < length key → k < length w → take k w ≡ take k key → take (k + 1) (set w k (getD key k 0)) ≡ take (k + 1) key
-copy-turn key w k h l e = rw (add-one k) (take-suc-set w k (getD key k 0) l ∙ ap (λ (x : List ℕ). x ++ (getD key k 0 ∷ [])) e ∙ sym (take-suc key k 0 h))
-
-pub key-first : (nk : ℕ) (key : List ℕ) → key ≡ schedule nk key (nk - nk)
+pub key-copied : (nk : ℕ) (key w rest : List ℕ) → length key ≡ 4 * nk → w ≡ take (length key) key ++ rest → take (4 * nk) w ≡ schedule nk key (nk - nk)
 unfolding schedule
-key-first nk key = let z : nk - nk ≡ 0 = omega arith in rw z
+key-copied nk key w rest e h =
+    let z : nk - nk ≡ 0 = omega arith in
+    rw z (ap (take (4 * nk)) (h ∙ ap (λ (x : List ℕ). x ++ rest) (take-all (length key) key (omega arith))) ∙ take-at key rest (4 * nk) e)

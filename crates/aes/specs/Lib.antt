@@ -1,3 +1,3 @@
 pub mod Cipher
 pub mod Round
-pub mod Sizes
+pub mod Schedule

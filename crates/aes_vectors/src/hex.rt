@@ -1,4 +1,5 @@
 // Bytes from hexadecimal text.
+use sizes::Block;
 ghost use Prim.Native.Nat.{_<_};
 
 // The value of a digit, 0 to 9 or a to f: a letter's low four bits are nine less.
@@ -22,7 +23,7 @@ pub fn unhex(text: &[u8], out: &mut [u8]) {
     }
 }
 
-pub fn block(text: &[u8; 32]) -> [u8; 16] {
+pub fn block(text: &[u8; 32]) -> Block {
     let mut b = [0u8; 16];
     unhex(text, &mut b);
     b

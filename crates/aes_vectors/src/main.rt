@@ -3,6 +3,7 @@ mod hex; // hex.rt: bytes from hexadecimal text
 mod vectors; // vectors.rt: the values
 
 use libc::STDOUT_FILENO;
+use sizes::SCHEDULE_WORDS;
 use vectors::Case;
 
 fn enciphers(c: Case) -> bool {
@@ -24,13 +25,13 @@ fn deciphers(c: Case) -> bool {
 }
 
 // For each word of the schedule, whether it is as published.
-fn expands() -> [bool; 44] {
+fn expands() -> [bool; SCHEDULE_WORDS] {
     let key = vectors::fips_197_a_1_key();
     let expected = vectors::fips_197_a_1_words();
     let rk = aes::expand_key(&key);
-    let mut good = [false; 44];
+    let mut good = [false; SCHEDULE_WORDS];
     let mut i = 0;
-    while i < 44 {
+    while i < SCHEDULE_WORDS {
         let start = 4 * i;
         let end = start + 4;
         good[i] = check::same(&rk[start..end], &expected[start..end]);

@@ -1,11 +1,15 @@
 // The published values, in lower case hexadecimal, each under the paper that gives it.
 use crate::hex::block;
 use crate::hex::unhex;
+use sizes::Block;
+use sizes::KEY_BYTES;
+use sizes::ROUND_KEY_BYTES;
+use sizes::RoundKeys;
 
 pub struct Case {
-    pub key: [u8; 16],
-    pub plain: [u8; 16],
-    pub cipher: [u8; 16],
+    pub key: [u8; KEY_BYTES],
+    pub plain: Block,
+    pub cipher: Block,
 }
 
 fn read(key: &[u8; 32], plain: &[u8; 32], cipher: &[u8; 32]) -> Case {
@@ -71,12 +75,12 @@ pub fn sp_800_38a_4() -> Case {
 }
 
 // FIPS 197, appendix A.1: the key, and the words w0 to w43 of its schedule.
-pub fn fips_197_a_1_key() -> [u8; 16] {
+pub fn fips_197_a_1_key() -> [u8; KEY_BYTES] {
     block(b"2b7e151628aed2a6abf7158809cf4f3c")
 }
 
-pub fn fips_197_a_1_words() -> [u8; 176] {
-    let mut w = [0u8; 176];
+pub fn fips_197_a_1_words() -> RoundKeys {
+    let mut w = [0u8; ROUND_KEY_BYTES];
     unhex(
         b"2b7e151628aed2a6abf7158809cf4f3ca0fafe1788542cb123a339392a6c7605\
           f2c295f27a96b9435935807a7359f67f3d80477d4716fe3e1e237e446d7a883b\

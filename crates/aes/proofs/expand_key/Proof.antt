@@ -5,18 +5,6 @@ use borrow.Author.Needs.{needs}
 use Rattle.aes.proofs.expand_key.Statement.{statement}
 use Rattle.aes.proofs.expand_key.Tie as tie
 
-sbox-requires : tie.Need-sbox-requires
-sbox-requires c κs = search needs
-
-round-constants-requires : tie.Need-round-constants-requires
-round-constants-requires c κs = search needs
-
-slice-aggregate-expand : tie.Need-slice-aggregate-expand
-slice-aggregate-expand c = search needs
-
-expand-requires : tie.Need-expand-requires
-expand-requires c κs = search needs
-
 returns : tie.Need-returns
 unfolding keyExpansion
 returns c = cc
@@ -25,8 +13,8 @@ pub expand-key-spec : {M : Type 1} → statement M
 expand-key-spec =
     tie.close
     (tie.spec
-    sbox-requires
-    round-constants-requires
-    slice-aggregate-expand
-    expand-requires
+    (λ c κs. search needs)
+    (λ c κs. search needs)
+    (λ c. search needs)
+    (λ c κs. search needs)
     returns)

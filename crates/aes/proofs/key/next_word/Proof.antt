@@ -6,55 +6,22 @@ use borrow.Author.Needs.{needs}
 use Rattle.aes.proofs.key.next_word.Statement.{statement}
 use Rattle.aes.proofs.key.next_word.Tie as tie
 
-sub-key-word : tie.Need-sub-key-word
-sub-key-word c = search needs
-
-key-word-requires : tie.Need-key-word-requires
-key-word-requires c κs = search needs
-
-sub-key-word-2 : tie.Need-sub-key-word-2
-sub-key-word-2 c = search needs
-
-key-word-requires-2 : tie.Need-key-word-requires-2
-key-word-requires-2 c κs = search needs
-
-rem-if1 : tie.Need-rem-if1
-rem-if1 c = search needs
-
-div-turned : tie.Need-div-turned
-div-turned c = search needs
-
 turned-requires : tie.Need-turned-requires
 turned-requires c κs =
     let s = c .before .before .before .before in
     let q = quotient (s .args .i) (s .args .nk) (s .pre .2) (s .pre .3) (s .pre .5) in
     (s .pre .0, s .pre .1, q .0, q .1)
 
-add-column-requires : tie.Need-add-column-requires
-add-column-requires c κs = search needs
-
 returns : tie.Need-returns
 returns c =
     let k = c .before .before .before in
     next-turned _ _ _ _ _ (k .before .key-word .ensures) (k .key-word2 .ensures) _ _ (c .before .before .if1 .taken) (c .before .turned .ensures) (c .add-column .ensures)
-
-rem-if3 : tie.Need-rem-if3
-rem-if3 c = search needs
-
-sub-word-requires : tie.Need-sub-word-requires
-sub-word-requires c κs = search needs
-
-add-column-requires-2 : tie.Need-add-column-requires-2
-add-column-requires-2 c κs = search needs
 
 returns-2 : tie.Need-returns-2
 returns-2 c =
     let k = c .before .before .before .before .before in
     next-substituted _ _ _ _ _ (k .before .key-word .ensures) (k .key-word2 .ensures) _ _ (c .before .before .before .before .if1 .left)
     (c .before .before .before .if2 .taken) (c .before .before .if3 .taken) (c .before .sub-word .ensures) (c .add-column2 .ensures)
-
-add-column-requires-3 : tie.Need-add-column-requires-3
-add-column-requires-3 c κs = search needs
 
 returns-3 : tie.Need-returns-3
 returns-3 c =
@@ -69,18 +36,18 @@ pub next-word-spec : {M : Type 1} → statement M
 next-word-spec =
     tie.close
     (tie.spec
-    sub-key-word
-    key-word-requires
-    sub-key-word-2
-    key-word-requires-2
-    rem-if1
-    div-turned
+    (λ c. search needs)
+    (λ c κs. search needs)
+    (λ c. search needs)
+    (λ c κs. search needs)
+    (λ c. search needs)
+    (λ c. search needs)
     turned-requires
-    add-column-requires
+    (λ c κs. search needs)
     returns
-    rem-if3
-    sub-word-requires
-    add-column-requires-2
+    (λ c. search needs)
+    (λ c κs. search needs)
+    (λ c κs. search needs)
     returns-2
-    add-column-requires-3
+    (λ c κs. search needs)
     returns-3)

@@ -10,12 +10,6 @@ use Rattle.field.proofs.TableLaws.{rcon-entry}
 use Rattle.aes.proofs.key.rcon_word.Statement.{statement}
 use Rattle.aes.proofs.key.rcon_word.Tie as tie
 
-sub-t3 : tie.Need-sub-t3
-sub-t3 c = search needs
-
-element-copy-out-t6 : tie.Need-element-copy-out-t6
-element-copy-out-t6 c = search needs
-
 returns : tie.Need-returns
 returns c =
     let s = c .before in
@@ -23,4 +17,4 @@ returns c =
     ap (λ x. x ∷ 0 ∷ 0 ∷ 0 ∷ []) (ap (λ t. getD t (round - 1) 0) (s .pre .0) ∙ rcon-entry (round - 1) (omega arith))
 
 pub rcon-word-spec : {M : Type 1} → statement M
-rcon-word-spec = tie.close (tie.spec sub-t3 element-copy-out-t6 returns)
+rcon-word-spec = tie.close (tie.spec (λ c. search needs) (λ c. search needs) returns)

@@ -6,18 +6,6 @@ use Rattle.standards.specs.Fips197.{subWord, addColumn}
 use Rattle.aes.proofs.key.turned.Statement.{statement}
 use Rattle.aes.proofs.key.turned.Tie as tie
 
-rot-word-requires : tie.Need-rot-word-requires
-rot-word-requires c κs = search needs
-
-sub-word-requires : tie.Need-sub-word-requires
-sub-word-requires c κs = search needs
-
-rcon-word-requires : tie.Need-rcon-word-requires
-rcon-word-requires c κs = search needs
-
-add-column-requires : tie.Need-add-column-requires
-add-column-requires c κs = search needs
-
 returns : tie.Need-returns
 returns c =
     let k = c .before .before in
@@ -27,4 +15,4 @@ returns c =
 pub turned-spec : {M : Type 1} → statement M
 turned-spec =
     tie.close
-    (tie.spec rot-word-requires sub-word-requires rcon-word-requires add-column-requires returns)
+    (tie.spec (λ c κs. search needs) (λ c κs. search needs) (λ c κs. search needs) (λ c κs. search needs) returns)

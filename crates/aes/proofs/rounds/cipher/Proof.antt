@@ -15,41 +15,14 @@ Inv-loop sbox w nr s₀ i₀ s i = (i ≤ nr - 1) × (s ≡ rounds w i s₀)
 abbrev μ-loop : tie.MeasureT-loop
 μ-loop sbox w nr s₀ i₀ s i = nr - 1 - i
 
-add-round-key-requires : tie.Need-add-round-key-requires Inv-loop μ-loop
-add-round-key-requires c κs = search needs
-
 loop-holds : tie.Need-loop-holds Inv-loop μ-loop
 unfolding rounds
 loop-holds c = (omega arith, refl)
-
-sub-loop : tie.Need-sub-loop Inv-loop μ-loop
-sub-loop c = omega arith
-
-round-requires : tie.Need-round-requires Inv-loop μ-loop
-round-requires c κs = search needs
-
-add-add-round-key : tie.Need-add-add-round-key Inv-loop μ-loop
-add-add-round-key c = omega arith
-
-add-round-key-requires-2 : tie.Need-add-round-key-requires-2 Inv-loop μ-loop
-add-round-key-requires-2 c κs = search needs
-
-add-i : tie.Need-add-i Inv-loop μ-loop
-add-i c = omega arith
-
-loop-less : tie.Need-loop-less Inv-loop μ-loop
-loop-less c = omega arith
 
 loop-again : tie.Need-loop-again Inv-loop μ-loop
 loop-again c =
     let l = c .before .before .before .loop in
     (omega arith, turn _ (l .i) _ _ _ _ (l .inv .1) (c .before .round .ensures) (c .add-round-key2 .ensures))
-
-round-requires-2 : tie.Need-round-requires-2 Inv-loop μ-loop
-round-requires-2 c κs = search needs
-
-add-round-key-requires-3 : tie.Need-add-round-key-requires-3 Inv-loop μ-loop
-add-round-key-requires-3 c κs = search needs
 
 returns : tie.Need-returns Inv-loop μ-loop
 returns c =
@@ -64,15 +37,15 @@ cipher-spec =
     (tie.spec
     Inv-loop
     μ-loop
-    add-round-key-requires
+    (λ c κs. search needs)
     loop-holds
-    sub-loop
-    round-requires
-    add-add-round-key
-    add-round-key-requires-2
-    add-i
-    loop-less
+    (λ c. omega arith)
+    (λ c κs. search needs)
+    (λ c. omega arith)
+    (λ c κs. search needs)
+    (λ c. omega arith)
+    (λ c. omega arith)
     loop-again
-    round-requires-2
-    add-round-key-requires-3
+    (λ c κs. search needs)
+    (λ c κs. search needs)
     returns)

@@ -15,29 +15,8 @@ Inv-loop inv w nr s₀ i₀ s i = (i ≤ nr - 1) × (invRounds w i s ≡ invRoun
 abbrev μ-loop : tie.MeasureT-loop
 μ-loop inv w nr s₀ i₀ s i = i
 
-add-round-key-requires : tie.Need-add-round-key-requires Inv-loop μ-loop
-add-round-key-requires c κs = search needs
-
-sub-i : tie.Need-sub-i Inv-loop μ-loop
-sub-i c = omega arith
-
 loop-holds : tie.Need-loop-holds Inv-loop μ-loop
 loop-holds c = (omega arith, refl)
-
-inv-shift-and-sub-requires : tie.Need-inv-shift-and-sub-requires Inv-loop μ-loop
-inv-shift-and-sub-requires c κs = search needs
-
-add-round-key-requires-2 : tie.Need-add-round-key-requires-2 Inv-loop μ-loop
-add-round-key-requires-2 c κs = search needs
-
-inv-mix-columns-requires : tie.Need-inv-mix-columns-requires Inv-loop μ-loop
-inv-mix-columns-requires c κs = search needs
-
-sub-i-2 : tie.Need-sub-i-2 Inv-loop μ-loop
-sub-i-2 c = omega arith
-
-loop-less : tie.Need-loop-less Inv-loop μ-loop
-loop-less c = omega arith
 
 loop-again : tie.Need-loop-again Inv-loop μ-loop
 loop-again c =
@@ -46,12 +25,6 @@ loop-again c =
       inv-turn _ (l .i) _ _ _ _ (omega arith) (c .before .before .inv-shift-and-sub .ensures) (c .before .add-round-key2 .ensures)
           (c .inv-mix-columns .ensures) ∙ l .inv .1,
     )
-
-inv-shift-and-sub-requires-2 : tie.Need-inv-shift-and-sub-requires-2 Inv-loop μ-loop
-inv-shift-and-sub-requires-2 c κs = search needs
-
-add-round-key-requires-3 : tie.Need-add-round-key-requires-3 Inv-loop μ-loop
-add-round-key-requires-3 c κs = search needs
 
 returns : tie.Need-returns Inv-loop μ-loop
 returns c =
@@ -66,15 +39,15 @@ inv-cipher-spec =
     (tie.spec
     Inv-loop
     μ-loop
-    add-round-key-requires
-    sub-i
+    (λ c κs. search needs)
+    (λ c. omega arith)
     loop-holds
-    inv-shift-and-sub-requires
-    add-round-key-requires-2
-    inv-mix-columns-requires
-    sub-i-2
-    loop-less
+    (λ c κs. search needs)
+    (λ c κs. search needs)
+    (λ c κs. search needs)
+    (λ c. omega arith)
+    (λ c. omega arith)
     loop-again
-    inv-shift-and-sub-requires-2
-    add-round-key-requires-3
+    (λ c κs. search needs)
+    (λ c κs. search needs)
     returns)

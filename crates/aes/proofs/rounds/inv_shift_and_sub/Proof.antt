@@ -6,15 +6,9 @@ use Rattle.standards.specs.Fips197.{invSubBytes}
 use Rattle.aes.proofs.rounds.inv_shift_and_sub.Statement.{statement}
 use Rattle.aes.proofs.rounds.inv_shift_and_sub.Tie as tie
 
-inv-shift-rows-requires : tie.Need-inv-shift-rows-requires
-inv-shift-rows-requires c κs = search needs
-
-inv-sub-bytes-requires : tie.Need-inv-sub-bytes-requires
-inv-sub-bytes-requires c κs = search needs
-
 returns : tie.Need-returns
 returns c = c .inv-sub-bytes .ensures ∙ ap invSubBytes (c .before .inv-shift-rows .ensures)
 
 pub inv-shift-and-sub-spec : {M : Type 1} → statement M
 inv-shift-and-sub-spec =
-    tie.close (tie.spec inv-shift-rows-requires inv-sub-bytes-requires returns)
+    tie.close (tie.spec (λ c κs. search needs) (λ c κs. search needs) returns)

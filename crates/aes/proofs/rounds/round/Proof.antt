@@ -6,15 +6,6 @@ use Rattle.standards.specs.Fips197.{shiftRows, mixColumns}
 use Rattle.aes.proofs.rounds.round.Statement.{statement}
 use Rattle.aes.proofs.rounds.round.Tie as tie
 
-sub-bytes-requires : tie.Need-sub-bytes-requires
-sub-bytes-requires c κs = search needs
-
-shift-rows-requires : tie.Need-shift-rows-requires
-shift-rows-requires c κs = search needs
-
-mix-columns-requires : tie.Need-mix-columns-requires
-mix-columns-requires c κs = search needs
-
 returns : tie.Need-returns
 returns c =
     let k = c .before .before in
@@ -28,4 +19,4 @@ returns-2 c =
 pub round-spec : {M : Type 1} → statement M
 round-spec =
     tie.close
-    (tie.spec sub-bytes-requires shift-rows-requires mix-columns-requires returns returns-2)
+    (tie.spec (λ c κs. search needs) (λ c κs. search needs) (λ c κs. search needs) returns returns-2)

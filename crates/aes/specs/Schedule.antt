@@ -4,7 +4,7 @@ use mathlib.Core.List.{List}
 use Prim.Native.Nat.{ℕ, _*_, _≤_}
 use lib.ListN.{length}
 
-pub record Sizes (nk n : ℕ) (key w : List ℕ) : Type 0 where
+pub record ScheduleSizes (nk n : ℕ) (key w : List ℕ) : Type 0 where
   pub some : 1 ≤ nk
   pub key-size : length key ≡ 4 * nk
   pub longer : nk ≤ n
