@@ -2,6 +2,7 @@ pub mod Tests
 pub mod XorLaws
 pub mod NumberLaws
 pub mod StringLaws
+pub mod WordLaws
 pub mod NtzLaws
 pub mod DoubleLaws
 pub mod Literals

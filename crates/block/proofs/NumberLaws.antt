@@ -80,7 +80,7 @@ module _ (base : ℕ) where
     digit-below n = mod-lt n positive
 
     -- the lowest of the k + 1 digits that are kept, and those above it
-    mod-step : (k n : ℕ) → n % base ^ suc k ≡ n / base % base ^ k * base + n % base
+    pub mod-step : (k n : ℕ) → n % base ^ suc k ≡ n / base % base ^ k * base + n % base
     mod-step k n = ap (λ (x : ℕ). n % x) (pow-suc base k) ∙ mod-mul n (one-le-pow k base positive) positive
 
     pub digits-below : (k n : ℕ) → Digits base (digits base k n)

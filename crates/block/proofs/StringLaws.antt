@@ -1,16 +1,16 @@
--- Strings of bytes under xor, and which operations keep a string's numbers bytes.
+-- Strings of bytes under xor, of zeros, and which operations keep a string's numbers bytes.
 -- Assumes nothing.
 use mathlib.Core.Path.{_≡_, refl, sym, ap, ap₂, _∙_}
 use mathlib.Core.Bool.{Bool, true, _&&_}
 use mathlib.Core.List.{List, [], _∷_, _++_}
-use Prim.Native.Nat.{ℕ, zero, suc, _+_, _<_}
-use native.Mathlib.Nat.{le-of-suc-le-suc, not-suc-le-zero, suc-inj}
+use Prim.Native.Nat.{ℕ, zero, suc, _+_, _-_, _<_}
+use native.Mathlib.Nat.{le-of-suc-le-suc, not-suc-le-zero, suc-inj, sub-zero, zero-sub, suc-sub-suc}
 use native.Mathlib.Omega.{arith}
 use native.Mathlib.Numerals.{add-one}
 use borrow.Author.Tests.{eq-eqb}
 use lib.Dec.{T, eqb, eqb→eq, lit<}
 use lib.ListN.{length, getD, set, take, drop, replicate}
-use Rattle.standards.specs.Strings.{_⊕_, _xor_, Bytes, Block}
+use Rattle.standards.specs.Strings.{_⊕_, _xor_, zeros, Bytes, Block}
 use Rattle.standards.specs.Rfc7253.{same}
 use Rattle.block.proofs.Tests.{and-left, and-right}
 use Rattle.block.proofs.NumberLaws.{below-append}
@@ -83,6 +83,13 @@ pub xor-turn : (a b r : List ℕ) (i : ℕ) → i < length b → r ≡ a xor tak
     → set r i (getD r i 0 ⊕ getD b i 0) ≡ a xor take (i + 1) b
 xor-turn a b r i h e =
     ap (λ (l : List ℕ). set l i (getD l i 0 ⊕ getD b i 0)) e ∙ xor-set a b i h ∙ ap (λ (k : ℕ). a xor take k b) (sym (add-one i))
+
+-- ---- zeros
+
+pub drop-zeros : (n k : ℕ) → drop n (zeros k) ≡ zeros (k - n)
+drop-zeros zero k = ap zeros (sym (sub-zero k))
+drop-zeros (suc n) zero = ap zeros (sym (zero-sub (suc n)))
+drop-zeros (suc n) (suc k) = drop-zeros n k ∙ ap zeros (sym (suc-sub-suc k n))
 
 -- ---- the test of two strings
 

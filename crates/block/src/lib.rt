@@ -1,16 +1,18 @@
-// Blocks of sixteen bytes and big-endian numbers: what the modes above are made of.
+// Blocks of sixteen bytes and numbers in bytes: what the modes above are made of.
 // Where a function takes a place in a slice, its `requires` says how much of the slice has to lie there.
+use sizes::Block;
 ghost use mathlib.Core.Path.{_≡_};
 ghost use mathlib.Core.List.{_++_};
-ghost use Prim.Native.Nat.{_+_, _≤_, _<_};
-ghost use lib.ListN.{length, take, drop};
+ghost use Prim.Native.Nat.{_+_, _^_, _≤_, _<_};
+ghost use lib.ListN.{length, getD, take, drop};
 ghost use Rattle.standards.specs.Strings.{_xor_, zeros, num, toBytes};
 ghost use Rattle.standards.specs.Rfc7253 as rfc;
+ghost use Rattle.block.specs.Words.{le, leBytes};
 
 // ---- Exclusive or
 
 // a xor b.
-pub fn xor(a: [u8; 16], b: [u8; 16]) -> [u8; 16]
+pub fn xor(a: Block, b: Block) -> Block
     ensures { λ r. ⌜ r ≡ a xor b ⌝ }
 {
     [
@@ -34,7 +36,7 @@ pub fn xor(a: [u8; 16], b: [u8; 16]) -> [u8; 16]
 }
 
 // Xors b's front into a, which may be shorter than a block.
-pub fn inplace_xor(a: &mut [u8], b: [u8; 16])
+pub fn inplace_xor(a: &mut [u8], b: Block)
     requires { ⌜ length (now a) ≤ 16 ⌝ }
     ensures { λ r. ⌜ now (a .exit) ≡ now (a .entry) xor b ⌝ }
 {
@@ -58,7 +60,7 @@ pub fn ntz(i: usize) -> usize
 
 // The block shifted left by one bit, each byte taking the top bit of its right neighbour; and 87 (hex) xored into the last byte
 // if the bit that is lost was 1.
-pub fn double(b: [u8; 16]) -> [u8; 16]
+pub fn double(b: Block) -> Block
     ensures { λ r. ⌜ r ≡ rfc.double b ⌝ }
 {
     let mut r = [
@@ -86,7 +88,7 @@ pub fn double(b: [u8; 16]) -> [u8; 16]
 // ---- Blocks in a slice
 
 // The sixteen bytes of s from place at on.
-pub fn load(s: &[u8], at: usize) -> [u8; 16]
+pub fn load(s: &[u8], at: usize) -> Block
     requires { ⌜ at + 16 ≤ length (now s) ⌝ }
     ensures { λ r. ⌜ r ≡ take 16 (drop at (now (s .entry))) ⌝ }
 {
@@ -113,7 +115,7 @@ pub fn load(s: &[u8], at: usize) -> [u8; 16]
 }
 
 // Writes b over the sixteen bytes of s from place at on.
-pub fn store(s: &mut [u8], at: usize, b: [u8; 16])
+pub fn store(s: &mut [u8], at: usize, b: Block)
     requires { ⌜ at + 16 ≤ length (now s) ⌝ }
     ensures { λ r. ⌜ now (s .exit) ≡ take at (now (s .entry)) ++ (b ++ drop (at + 16) (now (s .entry))) ⌝ }
 {
@@ -154,7 +156,51 @@ pub fn store_be64(s: &mut [u8], n: u64)
     }
 }
 
-// ---- Clearing
+// ---- Numbers in a slice, the lowest byte first
+
+// The byte of s at place i, as a number.
+fn byte(s: &[u8], i: usize) -> usize
+    requires { ⌜ i < length (now s) ⌝ }
+    ensures { λ r. ⌜ (r ≡ getD (now (s .entry)) i 0) × (r < 256) ⌝ }
+{
+    s[i] as usize
+}
+
+// The number that the four bytes of s from place at on are.
+pub fn load_le32(s: &[u8], at: usize) -> usize
+    requires { ⌜ at + 4 ≤ length (now s) ⌝ }
+    ensures { λ r. ⌜ (r ≡ le (take 4 (drop at (now (s .entry))))) × (r < 2 ^ 32) ⌝ }
+{
+    let a = byte(s, at);
+    let b = byte(s, at + 1);
+    let c = byte(s, at + 2);
+    let d = byte(s, at + 3);
+    a + b * 0x100 + c * 0x10000 + d * 0x1000000
+}
+
+// Writes the low 32 bits of n over the four bytes of s from place at on.
+pub fn store_le32(s: &mut [u8], at: usize, n: usize)
+    requires { ⌜ at + 4 ≤ length (now s) ⌝ }
+    ensures { λ r. ⌜ now (s .exit) ≡ take at (now (s .entry)) ++ (leBytes 4 n ++ drop (at + 4) (now (s .entry))) ⌝ }
+{
+    let b = n / 256;
+    let c = b / 256;
+    let d = c / 256;
+    s[at] = (n % 256) as u8;
+    s[at + 1] = (b % 256) as u8;
+    s[at + 2] = (c % 256) as u8;
+    s[at + 3] = (d % 256) as u8;
+}
+
+// ---- Copying and clearing
+
+// Writes from over s, from place at on.
+pub fn copy_at(s: &mut [u8], at: usize, from: &[u8])
+    requires { ⌜ at + length (now from) ≤ length (now s) ⌝ }
+    ensures { λ r. ⌜ now (s .exit) ≡ take at (now (s .entry)) ++ (now (from .entry) ++ drop (at + length (now (from .entry))) (now (s .entry))) ⌝ }
+{
+    bytes::copy(from, &mut s[at..]);
+}
 
 // Makes every byte of s zero.
 pub fn clear(s: &mut [u8])

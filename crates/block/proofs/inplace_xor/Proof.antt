@@ -19,21 +19,6 @@ loop-holds : tie.Need-loop-holds Inv-loop μ-loop
 unfolding _xor_
 loop-holds c = (search needs, refl, refl, refl, search needs, search needs)
 
-slice-read-a : tie.Need-slice-read-a Inv-loop μ-loop
-slice-read-a c = search needs
-
-array-read-a : tie.Need-array-read-a Inv-loop μ-loop
-array-read-a c = search needs
-
-slice-write-a : tie.Need-slice-write-a Inv-loop μ-loop
-slice-write-a c = search needs
-
-add-i : tie.Need-add-i Inv-loop μ-loop
-add-i c = search needs
-
-loop-less : tie.Need-loop-less Inv-loop μ-loop
-loop-less c = search needs
-
 loop-again : tie.Need-loop-again Inv-loop μ-loop
 unfolding _⊕_
 loop-again c =
@@ -64,11 +49,11 @@ inplace-xor-spec =
     Inv-loop
     μ-loop
     loop-holds
-    slice-read-a
-    array-read-a
-    slice-write-a
-    add-i
-    loop-less
+    (λ c. search needs)
+    (λ c. search needs)
+    (λ c. search needs)
+    (λ c. search needs)
+    (λ c. search needs)
     loop-again
     same-length
     returns)

@@ -33,12 +33,6 @@ loop-holds c = (zero-le, refl, zero-lt-suc 0)
 mul-n : tie.Need-mul-n Inv-loop μ-loop
 mul-n c = let l = c .before .loop in omega (arith, seven (l .i) (l .n) (c .loop-test .taken) (l .inv .2))
 
-add-n : tie.Need-add-n Inv-loop μ-loop
-add-n c = search needs
-
-shared-slice-read-n : tie.Need-shared-slice-read-n Inv-loop μ-loop
-shared-slice-read-n c = search needs
-
 cast-n : tie.Need-cast-n Inv-loop μ-loop
 cast-n c =
     let s = c .before .before .before in
@@ -50,12 +44,6 @@ add-n-2 c =
     let s = c .before .before .before in
     let l = c .before .before .loop in
     omega (arith, seven (l .i) (l .n) (c .before .loop-test .taken) (l .inv .2), c .shared-slice-known .given (s .args .at + l .i))
-
-add-i : tie.Need-add-i Inv-loop μ-loop
-add-i c = search needs
-
-loop-less : tie.Need-loop-less Inv-loop μ-loop
-loop-less c = search needs
 
 loop-again : tie.Need-loop-again Inv-loop μ-loop
 loop-again c =
@@ -83,11 +71,11 @@ load-be64-spec =
     μ-loop
     loop-holds
     mul-n
-    add-n
-    shared-slice-read-n
+    (λ c. search needs)
+    (λ c. search needs)
     cast-n
     add-n-2
-    add-i
-    loop-less
+    (λ c. search needs)
+    (λ c. search needs)
     loop-again
     returns)

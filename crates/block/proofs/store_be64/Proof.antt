@@ -22,18 +22,6 @@ loop-holds c =
     let n : ℕ = c .args .n in
     (search needs, c .pre, ap (λ (S : List ℕ). toBytes 8 n ++ S) (drop-of-length-le (c .args .s .now) {i = 8} (omega arith)) ∙ append-nil (toBytes 8 n))
 
-sub-i : tie.Need-sub-i Inv-loop μ-loop
-sub-i c = search needs
-
-cast-s : tie.Need-cast-s Inv-loop μ-loop
-cast-s c = search needs
-
-slice-write-s : tie.Need-slice-write-s Inv-loop μ-loop
-slice-write-s c = search needs
-
-loop-less : tie.Need-loop-less Inv-loop μ-loop
-loop-less c = search needs
-
 loop-again : tie.Need-loop-again Inv-loop μ-loop
 loop-again c =
     let l = c .before .loop in
@@ -42,9 +30,6 @@ loop-again c =
     let h : toBytes (suc (l .i - 1)) (l .x) ++ drop (suc (l .i - 1)) (l .s) ≡ T =
     subst (λ (k : ℕ). toBytes k (l .x) ++ drop k (l .s) ≡ T) e (l .inv .2) in
     (omega arith, simp length-set (l .inv .1), digits-turn 256 (l .s) T (l .i - 1) (l .x) (omega arith) h)
-
-same-length : tie.Need-same-length Inv-loop μ-loop
-same-length c = search needs
 
 returns : tie.Need-returns Inv-loop μ-loop
 unfolding digits
@@ -56,4 +41,4 @@ returns c =
 pub store-be64-spec : {M : Type 1} → statement M
 store-be64-spec =
     tie.close
-    (tie.spec Inv-loop μ-loop loop-holds sub-i cast-s slice-write-s loop-less loop-again same-length returns)
+    (tie.spec Inv-loop μ-loop loop-holds (λ c. search needs) (λ c. search needs) (λ c. search needs) (λ c. search needs) loop-again (λ c. search needs) returns)
