@@ -1,10 +1,12 @@
--- The product's table of numbers: which sizes are refused, by which number, and the count of cipher calls where none is.
-use mathlib.Core.Bool.{Bool, true, false, not, _||_}
+-- The product's table of numbers: which sizes are refused, by which number, and the count of cipher calls where none is. Sizes stand in the order of a
+-- call's parts: nonce, associated data, text, tag.
+use mathlib.Core.Bool.{Bool, cond, not, _||_}
 use mathlib.Core.List.{List, [], _∷_}
 use Prim.Native.Nat.{ℕ, _+_, _/_, _^_, _<_, _≤_}
 use lib.Dec.{eqb, ltb, leb}
+use Rattle.sizes.specs.Sizes.{keyBytes, places, nonceLeast, nonceMost, tagLeast, tagMost}
 
--- ---- The numbers: each with the test that gives it. The smallest that applies is given, 0 where none does.
+-- ---- The numbers: each with the test that gives it. The first rule that applies gives its number; where none does, the number is 0.
 
 pub record Rule : Type 0 where
   pub number : ℕ
@@ -14,49 +16,76 @@ infix 50 _if_
 abbrev pub _if_ : ℕ → Bool → Rule
 n if test = record { number = n; applies = test }
 
-abbrev pub choose : Bool → ℕ → ℕ → ℕ
-choose true a b = a
-choose false a b = b
-
--- the first rule that applies; the rules stand in the order of their numbers
 abbrev pub first : List Rule → ℕ
 first [] = 0
-first (rule ∷ rules) = choose (rule .applies) (rule .number) (first rules)
+first (rule ∷ rules) = cond (rule .applies) (rule .number) (first rules)
 
 -- n is not in least..most
 abbrev pub outside : ℕ → ℕ → ℕ → Bool
 outside least most n = ltb n least || ltb most n
 
--- texts and data are shorter than this many bytes
+-- THE LIMIT: with m places filled, texts and data are shorter than this many bytes
 abbrev pub limit : ℕ → ℕ
 limit m = 2 ^ (m + 4)
 
--- of set_up, by the key's size and m
-unfoldable pub setUpNumber : ℕ → ℕ → ℕ
-setUpNumber key m = first ((1 if not (eqb key 16)) ∷ (2 if outside 1 26 m) ∷ [])
+-- n bytes are too many
+abbrev pub tooLong : ℕ → ℕ → Bool
+tooLong m n = leb (limit m) n
 
--- of seal and open alike, by the sizes of nonce, tag, text and associated data
+-- of set_up, by the key's size and m
+abbrev pub setUpRules : ℕ → ℕ → List Rule
+setUpRules key m = (1 if not (eqb key keyBytes)) ∷ (2 if outside 1 places m) ∷ []
+
+unfoldable pub setUpNumber : ℕ → ℕ → ℕ
+setUpNumber key m = first (setUpRules key m)
+
+-- of seal and open alike
+abbrev pub sizeRules : ℕ → ℕ → ℕ → ℕ → ℕ → List Rule
+sizeRules m nonce ad text tag =
+    (2 if outside 1 places m) ∷ (3 if outside nonceLeast nonceMost nonce) ∷ (4 if outside tagLeast tagMost tag)
+    ∷ (5 if tooLong m text) ∷ (6 if tooLong m ad) ∷ []
+
 unfoldable pub refusal : ℕ → ℕ → ℕ → ℕ → ℕ → ℕ
-refusal m nonce tag text ad =
-    first
-    ((2 if outside 1 26 m) ∷ (3 if outside 6 15 nonce) ∷ (4 if outside 1 16 tag)
-    ∷ (5 if leb (limit m) text) ∷ (6 if leb (limit m) ad) ∷ [])
+refusal m nonce ad text tag = first (sizeRules m nonce ad text tag)
 
 -- ---- Sizes that no number refuses
 
--- n is in a..b
-pub record Inside (a b n : ℕ) : Type 0 where
-  pub least : a ≤ n
-  pub most : n ≤ b
+-- n is in least..most
+pub record Inside (least most n : ℕ) : Type 0 where
+  pub from : least ≤ n
+  pub to : n ≤ most
 
--- the sizes of nonce, tag, text and associated data that are admitted with m places
-pub record InRange (m nonce tag text ad : ℕ) : Type 0 where
-  pub places : Inside 1 26 m
-  pub nonce-size : Inside 6 15 nonce
-  pub tag-size : Inside 1 16 tag
-  pub text-size : text < limit m
-  pub ad-size : ad < limit m
+abbrev pub NonceSize : ℕ → Type 0
+NonceSize = Inside nonceLeast nonceMost
 
--- the blocks begun of text and associated data, one for the nonce and one for the tag
+abbrev pub TagSize : ℕ → Type 0
+TagSize = Inside tagLeast tagMost
+
+-- n bytes are within m
+pub record Fits (m n : ℕ) : Type 0 where
+  pub filled : m ≤ places
+  pub short : n < limit m
+
+-- the L value of block i stands in a table of which m places are filled
+pub record InTable (m i : ℕ) : Type 0 where
+  pub filled : m ≤ places
+  pub counted : 0 < i
+  pub early : i < 2 ^ m
+
+-- the sizes that are admitted
+pub record InRange (m nonce ad text tag : ℕ) : Type 0 where
+  pub filled : Inside 1 places m
+  pub nonce-size : NonceSize nonce
+  pub ad-size : Fits m ad
+  pub text-size : Fits m text
+  pub tag-size : TagSize tag
+
+-- ---- The count of cipher calls
+
+-- the blocks begun of n bytes
+abbrev pub blocks : ℕ → ℕ
+blocks n = (n + 15) / 16
+
+-- those of associated data and text, one for the nonce and one for the tag
 abbrev pub count : ℕ → ℕ → ℕ
-count text ad = (text + 15) / 16 + (ad + 15) / 16 + 2
+count ad text = blocks text + blocks ad + 2

@@ -1,95 +1,99 @@
--- `ocb_numbers::refuse` meets its contract: each test is a rule of the table, in the table's order. Assumes nothing.
+-- `refuse` meets its contract: each test is a rule of the list, in the list's order. Assumes nothing.
 use mathlib.Core.Path.{sym, _∙_}
-use Prim.Native.Nat.{ℕ}
-use native.Mathlib.Omega.{arith}
 use borrow.Author.Needs.{needs}
-use Rattle.ocb_numbers.specs.Numbers.{outside}
-use Rattle.ocb_numbers.proofs.Refusals.{inside, refused-2, refused-3, refused-4, refused-5, refused-6, refused-0, limit-is}
+use Rattle.sizes.specs.Sizes.{places}
+use Rattle.ocb_numbers.specs.Numbers.{sizeRules, refusal}
+use Rattle.ocb_numbers.proofs.RuleLaws.{first-at, first-none}
+use Rattle.ocb_numbers.proofs.Refusals.{inside}
 use Rattle.ocb_numbers.proofs.refuse.Statement.{statement}
 use Rattle.ocb_numbers.proofs.refuse.Tie as tie
 
-outside-requires : tie.Need-outside-requires
-outside-requires c κs = search needs
-
 returns : tie.Need-returns
-returns c = refused-2 _ _ _ _ _ (sym (c .before .outside .ensures) ∙ c .if1 .taken)
-
-outside-requires-2 : tie.Need-outside-requires-2
-outside-requires-2 c κs = search needs
+unfolding refusal
+returns c =
+    let a = c .before .before .args in
+    sym (first-at 0 (sizeRules (a .m) (a .nonce) (a .ad) (a .text) (a .tag)) tt (sym (c .before .outside .ensures) ∙ c .if1 .taken))
 
 returns-2 : tie.Need-returns-2
+unfolding refusal
 returns-2 c =
-    let first = c .before .before in
-    refused-3 _ _ _ _ _ (sym (first .before .outside .ensures) ∙ first .if1 .left) (sym (c .before .outside2 .ensures) ∙ c .if2 .taken)
-
-outside-requires-3 : tie.Need-outside-requires-3
-outside-requires-3 c κs = search needs
+    let at1 = c .before .before in
+    let a = at1 .before .before .args in
+    let e1 = sym (at1 .before .outside .ensures) ∙ at1 .if1 .left in
+    sym (first-at 1 (sizeRules (a .m) (a .nonce) (a .ad) (a .text) (a .tag)) (e1, tt) (sym (c .before .outside2 .ensures) ∙ c .if2 .taken))
 
 returns-3 : tie.Need-returns-3
+unfolding refusal
 returns-3 c =
-    let second = c .before .before in
-    let first = second .before .before in
-    refused-4 _ _ _ _ _ (sym (first .before .outside .ensures) ∙ first .if1 .left) (sym (second .before .outside2 .ensures) ∙ second .if2 .left)
-    (sym (c .before .outside3 .ensures) ∙ c .if3 .taken)
-
-add-limit : tie.Need-add-limit
-add-limit c =
-    let first = c .before .before .before .before in
-    omega (arith, inside 1 26 (first .before .before .args .m) (sym (first .before .outside .ensures) ∙ first .if1 .left) .most)
-
-shl-limit : tie.Need-shl-limit
-shl-limit c =
-    let first = c .before .before .before .before in
-    omega (arith, inside 1 26 (first .before .before .args .m) (sym (first .before .outside .ensures) ∙ first .if1 .left) .most)
+    let at2 = c .before .before in
+    let at1 = at2 .before .before in
+    let a = at1 .before .before .args in
+    let e1 = sym (at1 .before .outside .ensures) ∙ at1 .if1 .left in
+    let e2 = sym (at2 .before .outside2 .ensures) ∙ at2 .if2 .left in
+    sym (first-at 2 (sizeRules (a .m) (a .nonce) (a .ad) (a .text) (a .tag)) (e1, (e2, tt)) (sym (c .before .outside3 .ensures) ∙ c .if3 .taken))
 
 returns-4 : tie.Need-returns-4
+unfolding refusal
 returns-4 c =
-    let third = c .before in
-    let second = third .before .before in
-    let first = second .before .before in
-    let e₂ = sym (first .before .outside .ensures) ∙ first .if1 .left in
-    let e₃ = sym (second .before .outside2 .ensures) ∙ second .if2 .left in
-    let e₄ = sym (third .before .outside3 .ensures) ∙ third .if3 .left in
-    let m : ℕ = first .before .before .args .m in
-    let e = limit-is m (inside 1 26 m e₂ .most) in
-    refused-5 _ _ _ _ _ e₂ e₃ e₄ (rw e at (c .if4 .taken))
+    let at3 = c .before .before in
+    let at2 = at3 .before .before in
+    let at1 = at2 .before .before in
+    let a = at1 .before .before .args in
+    let e1 = sym (at1 .before .outside .ensures) ∙ at1 .if1 .left in
+    let e2 = sym (at2 .before .outside2 .ensures) ∙ at2 .if2 .left in
+    let e3 = sym (at3 .before .outside3 .ensures) ∙ at3 .if3 .left in
+    sym (first-at 3 (sizeRules (a .m) (a .nonce) (a .ad) (a .text) (a .tag)) (e1, (e2, (e3, tt))) (sym (c .before .too-long .ensures) ∙ c .if4 .taken))
 
 returns-5 : tie.Need-returns-5
+unfolding refusal
 returns-5 c =
-    let third = c .before .before in
-    let second = third .before .before in
-    let first = second .before .before in
-    let e₂ = sym (first .before .outside .ensures) ∙ first .if1 .left in
-    let e₃ = sym (second .before .outside2 .ensures) ∙ second .if2 .left in
-    let e₄ = sym (third .before .outside3 .ensures) ∙ third .if3 .left in
-    let m : ℕ = first .before .before .args .m in
-    let e = limit-is m (inside 1 26 m e₂ .most) in
-    refused-6 _ _ _ _ _ e₂ e₃ e₄ (rw e at (c .before .if4 .left)) (rw e at (c .if5 .taken))
+    let at4 = c .before .before in
+    let at3 = at4 .before .before in
+    let at2 = at3 .before .before in
+    let at1 = at2 .before .before in
+    let a = at1 .before .before .args in
+    let e1 = sym (at1 .before .outside .ensures) ∙ at1 .if1 .left in
+    let e2 = sym (at2 .before .outside2 .ensures) ∙ at2 .if2 .left in
+    let e3 = sym (at3 .before .outside3 .ensures) ∙ at3 .if3 .left in
+    let e4 = sym (at4 .before .too-long .ensures) ∙ at4 .if4 .left in
+    sym (first-at 4 (sizeRules (a .m) (a .nonce) (a .ad) (a .text) (a .tag)) (e1, (e2, (e3, (e4, tt)))) (sym (c .before .too-long2 .ensures) ∙ c .if5 .taken))
 
 returns-6 : tie.Need-returns-6
+unfolding refusal
 returns-6 c =
-    let third = c .before .before in
-    let second = third .before .before in
-    let first = second .before .before in
-    let e₂ = sym (first .before .outside .ensures) ∙ first .if1 .left in
-    let e₃ = sym (second .before .outside2 .ensures) ∙ second .if2 .left in
-    let e₄ = sym (third .before .outside3 .ensures) ∙ third .if3 .left in
-    let m : ℕ = first .before .before .args .m in
-    let e = limit-is m (inside 1 26 m e₂ .most) in
-    refused-0 _ _ _ _ _ e₂ e₃ e₄ (rw e at (c .before .if4 .left)) (rw e at (c .if5 .left))
+    let at4 = c .before .before in
+    let at3 = at4 .before .before in
+    let at2 = at3 .before .before in
+    let at1 = at2 .before .before in
+    let a = at1 .before .before .args in
+    let e1 = sym (at1 .before .outside .ensures) ∙ at1 .if1 .left in
+    let e2 = sym (at2 .before .outside2 .ensures) ∙ at2 .if2 .left in
+    let e3 = sym (at3 .before .outside3 .ensures) ∙ at3 .if3 .left in
+    let e4 = sym (at4 .before .too-long .ensures) ∙ at4 .if4 .left in
+    sym (first-none (sizeRules (a .m) (a .nonce) (a .ad) (a .text) (a .tag)) (e1, (e2, (e3, (e4, (sym (c .before .too-long2 .ensures) ∙ c .if5 .left, tt))))))
+
+too-long-requires : tie.Need-too-long-requires
+too-long-requires c κs =
+    let at1 = c .before .before .before .before in
+    inside 1 places (at1 .before .before .args .m) (sym (at1 .before .outside .ensures) ∙ at1 .if1 .left) .to
+
+too-long-requires-2 : tie.Need-too-long-requires-2
+too-long-requires-2 c κs =
+    let at1 = c .before .before .before .before .before .before in
+    inside 1 places (at1 .before .before .args .m) (sym (at1 .before .outside .ensures) ∙ at1 .if1 .left) .to
 
 pub refuse-spec : {M : Type 1} → statement M
 refuse-spec =
     tie.close
     (tie.spec
-    outside-requires
+    (λ c κs. search needs)
     returns
-    outside-requires-2
+    (λ c κs. search needs)
     returns-2
-    outside-requires-3
+    (λ c κs. search needs)
     returns-3
-    add-limit
-    shl-limit
+    too-long-requires
     returns-4
+    too-long-requires-2
     returns-5
     returns-6)

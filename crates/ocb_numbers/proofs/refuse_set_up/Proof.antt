@@ -1,21 +1,35 @@
--- `ocb_numbers::refuse_set_up` meets its contract: each test is a rule of the table, in the table's order. Assumes nothing.
-use mathlib.Core.Path.{sym, _∙_}
+-- `refuse_set_up` meets its contract: each test is a rule of the list, in the list's order. Assumes nothing.
+use mathlib.Core.Path.{sym, ap, _∙_}
+use mathlib.Core.Bool.{not}
 use borrow.Author.Needs.{needs}
-use Rattle.ocb_numbers.proofs.Refusals.{set-up-0, set-up-1, set-up-2}
+use borrow.Author.Tests.{eq-eqb, ne-eqb}
+use Rattle.sizes.specs.Sizes.{keyBytes}
+use Rattle.ocb_numbers.specs.Numbers.{setUpRules, setUpNumber}
+use Rattle.ocb_numbers.proofs.RuleLaws.{first-at, first-none}
 use Rattle.ocb_numbers.proofs.refuse_set_up.Statement.{statement}
 use Rattle.ocb_numbers.proofs.refuse_set_up.Tie as tie
 
 returns : tie.Need-returns
-returns c = set-up-1 _ _ (c .if1 .taken)
-
-outside-requires : tie.Need-outside-requires
-outside-requires c κs = search needs
+unfolding setUpNumber
+returns c =
+    let a = c .before .args in
+    sym (first-at 0 (setUpRules (a .key) (a .m)) tt (ap not (ne-eqb (a .key) keyBytes (c .if1 .taken))))
 
 returns-2 : tie.Need-returns-2
-returns-2 c = set-up-2 _ _ (c .before .before .if1 .left) (sym (c .before .outside .ensures) ∙ c .if2 .taken)
+unfolding setUpNumber
+returns-2 c =
+    let second = c .before in
+    let a = second .before .before .args in
+    let key = ap not (eq-eqb (a .key) keyBytes (second .before .if1 .left)) in
+    sym (first-at 1 (setUpRules (a .key) (a .m)) (key, tt) (sym (second .outside .ensures) ∙ c .if2 .taken))
 
 returns-3 : tie.Need-returns-3
-returns-3 c = set-up-0 _ _ (c .before .before .if1 .left) (sym (c .before .outside .ensures) ∙ c .if2 .left)
+unfolding setUpNumber
+returns-3 c =
+    let second = c .before in
+    let a = second .before .before .args in
+    let key = ap not (eq-eqb (a .key) keyBytes (second .before .if1 .left)) in
+    sym (first-none (setUpRules (a .key) (a .m)) (key, (sym (second .outside .ensures) ∙ c .if2 .left, tt)))
 
 pub refuse-set-up-spec : {M : Type 1} → statement M
-refuse-set-up-spec = tie.close (tie.spec returns outside-requires returns-2 returns-3)
+refuse-set-up-spec = tie.close (tie.spec returns (λ c κs. search needs) returns-2 returns-3)
