@@ -20,9 +20,12 @@ ghost use Rattle.aes.specs.Cipher.{enc, dec, EnciphersWith, DeciphersWit
 
 // ---- What the cipher works with: the crates above lend it, and do not look into it
 
-pub type EncipherTables = [u8; 256];
+// Of one size in both directions, so that what goes either way is lent either.
+pub type Tables = [u8; 256];
 
-pub type DecipherTables = [u8; 256];
+pub type EncipherTables = Tables;
+
+pub type DecipherTables = Tables;
 
 pub fn encipher_tables() -> EncipherTables
     ensures { λ r. ⌜ EnciphersWith r ⌝ }

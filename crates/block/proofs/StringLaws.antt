@@ -4,12 +4,13 @@ use mathlib.Core.Path.{_≡_, refl, sym, ap, ap₂, _∙_}
 use mathlib.Core.Bool.{Bool, true, _&&_}
 use mathlib.Core.List.{List, [], _∷_, _++_}
 use Prim.Native.Nat.{ℕ, zero, suc, _+_, _-_, _<_}
-use native.Mathlib.Nat.{le-of-suc-le-suc, not-suc-le-zero, suc-inj, sub-zero, zero-sub, suc-sub-suc}
+use native.Mathlib.Nat.{le-of-suc-le-suc, not-suc-le-zero, suc-inj, sub-zero, zero-sub, suc-sub-suc, zero-add, suc-add}
 use native.Mathlib.Omega.{arith}
 use native.Mathlib.Numerals.{add-one}
 use borrow.Author.Tests.{eq-eqb}
 use lib.Dec.{T, eqb, eqb→eq, lit<}
 use lib.ListN.{length, getD, set, take, drop, replicate}
+use lib.Seq.{take-nil}
 use Rattle.standards.specs.Strings.{_⊕_, _xor_, zeros, Bytes, Block}
 use Rattle.standards.specs.Rfc7253.{same}
 use Rattle.block.proofs.Tests.{and-left, and-right}
@@ -84,7 +85,12 @@ pub xor-turn : (a b r : List ℕ) (i : ℕ) → i < length b → r ≡ a xor tak
 xor-turn a b r i h e =
     ap (λ (l : List ℕ). set l i (getD l i 0 ⊕ getD b i 0)) e ∙ xor-set a b i h ∙ ap (λ (k : ℕ). a xor take k b) (sym (add-one i))
 
--- ---- zeros
+-- ---- parts, and zeros
+
+pub drop-take : (n k : ℕ) (l : List ℕ) → drop n (take (n + k) l) ≡ take k (drop n l)
+drop-take zero k l = ap (λ (x : ℕ). take x l) (zero-add k)
+drop-take (suc n) k [] = ap (drop (suc n)) (take-nil (suc n + k)) ∙ sym (take-nil k)
+drop-take (suc n) k (x ∷ l) = ap (λ (y : ℕ). drop (suc n) (take y (x ∷ l))) (suc-add n k) ∙ drop-take n k l
 
 pub drop-zeros : (n k : ℕ) → drop n (zeros k) ≡ zeros (k - n)
 drop-zeros zero k = ap zeros (sym (sub-zero k))

@@ -4,7 +4,7 @@ use mathlib.Core.List.{List, [], _∷_}
 use Prim.Native.Nat.{ℕ, _+_, _*_}
 use lib.Dec.{eqb, ltb}
 use lib.ListN.{length, getD, take, drop}
-use Rattle.ocb.specs.Answers.{Outcome, unless, setUp, sealed, opened}
+use Rattle.ocb.specs.Answers.{Outcome, untouched, unless, setUp, sealed, opened}
 use Rattle.ocb.specs.declared.SetUp.{SetUp}
 
 -- ---- The table of contents: 0 seal or 1 open, m, and five lengths of four bytes, the lowest byte first
@@ -89,7 +89,7 @@ worked false u N A S T = sealed (u .state) N A S T
 
 -- if set-up refuses, its number with count 0, and text and tag as given
 abbrev pub after : SetUp → Bool → List ℕ → List ℕ → List ℕ → List ℕ → Outcome
-after u opens N A S T = unless (u .number) S T (worked opens u N A S T)
+after u opens N A S T = unless (u .number) (untouched S T) (worked opens u N A S T)
 
 unfoldable pub outcome : Case → Outcome
 outcome c = after (setUp (c .key) (c .m)) (c .opens) (c .nonce) (c .ad) (c .text) (c .tag)

@@ -4,6 +4,7 @@ use mathlib.Core.Path.{_≡_, ap₂, subst}
 use mathlib.Core.List.{List}
 use Prim.Native.Nat.{ℕ, suc, _*_}
 use lib.ListN.{length, drop}
+use Rattle.sizes.specs.Sizes.{keyWords, aesRounds}
 use Rattle.standards.specs.Strings.{zeros, Bytes, Block}
 use Rattle.standards.specs.Fips197.{keyExpansion}
 use Rattle.standards.specs.Rfc7253.{Key, keyed, double, doubled, blockAt, Offset-0}
@@ -21,17 +22,17 @@ use Rattle.ocb_variables.specs.Held.{held}
 use Rattle.ocb_variables.specs.State.{stateOf}
 use Rattle.ocb_variables.proofs.BlockLaws.{double-block, doubled-block, initial-offset-block}
 use Rattle.ocb_variables.proofs.KeyLaws.{state-agrees}
-use Rattle.ocb_numbers.specs.Numbers.{Inside}
+use Rattle.ocb_numbers.specs.Numbers.{NonceSize, TagSize}
 use Rattle.ocb.specs.Terms.{HoldsBytes}
 
--- ten rounds under round keys w, with any L values that are bytes
+-- the cipher under round keys w, with any L values that are bytes
 cipher-under : (w star dollar : List ℕ) (L : ℕ → List ℕ) → Bytes w → Bytes star → Bytes dollar → ((i : ℕ) → Bytes (L i))
-    → Cipher (record { ENCIPHER = enc 10 w; DECIPHER = dec 10 w; L-* = star; L-$ = dollar; L = L })
+    → Cipher (record { ENCIPHER = enc aesRounds w; DECIPHER = dec aesRounds w; L-* = star; L-$ = dollar; L = L })
 cipher-under w star dollar L h hs hd hl = record {
-  enc-block = λ b. enc-block 10 w b h;
-  dec-block = λ b. dec-block 10 w b h;
-  dec-enc = λ b. dec-enc 10 w b h;
-  enc-dec = λ b. enc-dec 10 w b h;
+  enc-block = λ b. enc-block aesRounds w b h;
+  dec-block = λ b. dec-block aesRounds w b h;
+  dec-enc = λ b. dec-enc aesRounds w b h;
+  enc-dec = λ b. enc-dec aesRounds w b h;
   star = hs;
   dollar = hd;
   table = hl;
@@ -40,36 +41,36 @@ cipher-under w star dollar L h hs hd hl = record {
 -- ---- the key of round keys w, by doubling
 
 abbrev keyOf : List ℕ → Key
-keyOf w = keyed (enc 10 w) (dec 10 w)
+keyOf w = keyed (enc aesRounds w) (dec aesRounds w)
 
 key-cipher : (w : List ℕ) → Bytes w → Cipher (keyOf w)
 key-cipher w h =
-    let star : List ℕ = enc 10 w (zeros 16) in
+    let star : List ℕ = enc aesRounds w (zeros 16) in
     let dollar : List ℕ = double star in
-    cipher-under w star dollar (λ i. doubled (suc i) dollar) h (enc-block 10 w (zeros 16) h block-zeros .bytes) (double-block star .bytes)
+    cipher-under w star dollar (λ i. doubled (suc i) dollar) h (enc-block aesRounds w (zeros 16) h block-zeros .bytes) (double-block star .bytes)
     (λ i. doubled-block i dollar .bytes)
 
 -- the cipher under expanded round keys is FIPS 197's
-fips : (k : List ℕ) → keyOf (keyExpansion 4 10 k) ≡ AES-128 k
+fips : (k : List ℕ) → keyOf (keyExpansion keyWords aesRounds k) ≡ AES-128 k
 fips k =
-    let w : List ℕ = keyExpansion 4 10 k in
-    ap₂ keyed (λ i b. enc-is 10 w b i) (λ i b. dec-is 10 w b i)
+    let w : List ℕ = keyExpansion keyWords aesRounds k in
+    ap₂ keyed (λ i b. enc-is aesRounds w b i) (λ i b. dec-is aesRounds w b i)
 
 pub aes-cipher : (k : List ℕ) → Bytes k → Cipher (AES-128 k)
-aes-cipher k h = subst Cipher (fips k) (key-cipher (keyExpansion 4 10 k) (expansion-bytes 4 10 k h))
+aes-cipher k h = subst Cipher (fips k) (key-cipher (keyExpansion keyWords aesRounds k) (expansion-bytes keyWords aesRounds k h))
 
-pub state-holds : (k : List ℕ) (m : ℕ) → Agrees m (held (stateOf (keyExpansion 4 10 k) m)) (AES-128 k)
-state-holds k m = subst (Agrees m (held (stateOf (keyExpansion 4 10 k) m))) (fips k) (state-agrees (keyExpansion 4 10 k) m)
+pub state-holds : (k : List ℕ) (m : ℕ) → Agrees m (held (stateOf (keyExpansion keyWords aesRounds k) m)) (AES-128 k)
+state-holds k m = subst (Agrees m (held (stateOf (keyExpansion keyWords aesRounds k) m))) (fips k) (state-agrees (keyExpansion keyWords aesRounds k) m)
 
 -- the first offset is a block, for the sizes that are admitted
-pub first-block : (K : Key) → Cipher K → (t : ℕ) (N : List ℕ) → Inside 6 15 (length N) → Inside 1 16 t → Bytes N → Block (Offset-0 K t N)
+pub first-block : (K : Key) → Cipher K → (t : ℕ) (N : List ℕ) → NonceSize (length N) → TagSize t → Bytes N → Block (Offset-0 K t N)
 first-block K C t N n i h =
-    subst Block (offset-same t N (n .least) (n .most) (i .least) (i .most) h K (C .enc-block)) (initial-offset-block K t N)
+    subst Block (offset-same t N (n .from) (n .to) (i .from) (i .to) h K (C .enc-block)) (initial-offset-block (K .ENCIPHER) t N)
 
 -- ---- the key that any state holds, whoever made it
 
 pub held-cipher : (s : State) → HoldsBytes s → Cipher (held s)
 unfolding blockAt
 held-cipher s h =
-    cipher-under (s .«round_keys») (s .star) (s .dollar) (λ i. blockAt (s .table) i) (h .keys) (h .star) (h .dollar)
+    cipher-under (s .«round_keys») (s .values .star) (s .values .dollar) (λ i. blockAt (s .table) i) (h .keys) (h .star) (h .dollar)
     (λ i. bytes-take 16 (drop (i * 16) (s .table)) (bytes-drop (i * 16) (s .table) (h .table)))

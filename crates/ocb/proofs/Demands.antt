@@ -1,17 +1,19 @@
 -- The demands, as theorems. Each speaks of any answer that meets the promise of set_up, seal or open (specs/Answers.antt), and so of what the code answers;
 -- for a state made from a key it speaks of that key, RFC 7253 and FIPS 197 alone. Under one nonce N and associated data A, S is the text that is lent and T
 -- the tag or its place; r is the answer, S' and T' are what is left. Assumes nothing.
-use mathlib.Core.Path.{_≡_, refl, sym, ap, ap₂, subst, subst₂, _∙_}
+use mathlib.Core.Path.{_≡_, refl, sym, ap, ap₂, subst, subst⁻¹, subst₂, _∙_}
 use mathlib.Core.Logic.{_↔_}
 use mathlib.Core.List.{List, _++_}
-use Prim.Native.Nat.{ℕ, zero, suc, _+_, _/_, _≤_}
+use Prim.Native.Nat.{ℕ, zero, suc, _+_, _≤_}
 use native.Mathlib.Omega.{arith}
 use lib.ListN.{length, length-drop, take-append-drop}
 use lib.Seq.{length-take-le}
+use Rattle.sizes.specs.Sizes.{keyWords, aesRounds}
 use Rattle.standards.specs.Strings.{zeros, Bytes, Block}
 use Rattle.standards.specs.Fips197.{keyExpansion}
 use Rattle.standards.specs.Rfc7253.{Key, Plaintext, VALID, INVALID, Offset-0, OCB-ENCRYPT, OCB-ENCRYPT-inputs, OCB-DECRYPT, OCB-DECRYPT-inputs}
 use Rattle.standards.specs.AesOcb.{AES-128}
+use Rattle.aes.proofs.Expansion.{expansion-bytes}
 use Rattle.ocb_laws.proofs.Cipher.{Cipher}
 use Rattle.ocb_laws.proofs.RoundTrip.{decrypt-encrypt, encrypt-decrypt, decrypt-bytes, encrypt-length}
 use Rattle.ocb_laws.proofs.Calls.{encrypt-calls, decrypt-calls}
@@ -20,17 +22,17 @@ use Rattle.ocb_variables.specs.Held.{held}
 use Rattle.ocb_variables.specs.State.{stateOf}
 use Rattle.ocb.specs.declared.SetUp.{SetUp}
 use Rattle.ocb.specs.declared.Answer.{Answer}
-use Rattle.ocb_numbers.specs.Numbers.{setUpNumber, refusal}
-use Rattle.ocb.specs.Answers.{refusedSetUp, madeUnless, setUp, Outcome, unless, encrypted, verdict, decrypted, sealed, opened, Leaves}
-use Rattle.ocb_numbers.specs.Numbers.{InRange}
+use Rattle.ocb_numbers.specs.Numbers.{setUpNumber, sizeRules, refusal, count, InRange}
+use Rattle.ocb.specs.Answers.{zeroState, madeUnless, setUp, Outcome, untouched, sealRefused, openRefused, unless, encrypted, verdict, decrypted, sealed, opened, Leaves}
 use Rattle.ocb.specs.Terms.{MadeFrom, Encrypts, Told, HoldsBytes}
-use Rattle.ocb_numbers.proofs.Refusals.{refused-2, in-range, refusal-most}
+use Rattle.ocb_numbers.proofs.RuleLaws.{first-at}
+use Rattle.ocb_numbers.proofs.Refusals.{in-range, refusal-most}
 use Rattle.ocb.proofs.AesKey.{aes-cipher, held-cipher, first-block}
-use Rattle.ocb.proofs.MadeState.{seal-is, open-is}
+use Rattle.ocb.proofs.MadeState.{made-state, made-places, state-holds-bytes, seal-is, open-is}
 
 -- the number that the sizes ask for; OCB-DECRYPT's verdict under a key, and how many blocks it takes
 abbrev asked : State → List ℕ → List ℕ → List ℕ → List ℕ → ℕ
-asked s N A S T = refusal (s .m) (length N) (length T) (length S) (length A)
+asked s N A S T = refusal (s .values .m) (length N) (length A) (length S) (length T)
 
 abbrev decryption : Key → List ℕ → List ℕ → List ℕ → List ℕ → Plaintext
 decryption K N A S T = OCB-DECRYPT K (length T) N A (S ++ T)
@@ -41,7 +43,7 @@ inputs K N A S T = length (OCB-DECRYPT-inputs K (length T) N A (S ++ T))
 -- ---- Demand 1: every input is answered, and what a refusal leaves
 
 zeros-after-7 : (n : ℕ) (D : Plaintext) (calls : ℕ) (S T : List ℕ) {r : Answer} {S' T' : List ℕ} → n ≤ 6
-    → Leaves (unless n S T (verdict D calls S T)) r S' T' → r .number ≡ 7 → (S' ≡ zeros (length S)) × (T' ≡ T)
+    → Leaves (unless n (openRefused S T) (verdict D calls S T)) r S' T' → r .number ≡ 7 → (S' ≡ zeros (length S)) × (T' ≡ T)
 zeros-after-7 zero (VALID P) calls S T h L e = absurd (omega (arith, L .number))
 zeros-after-7 zero INVALID calls S T h L e = (L .text-left, L .tag-left)
 zeros-after-7 (suc n) D calls S T h L e = absurd (omega (arith, L .number))
@@ -52,9 +54,9 @@ pub refused-zero : (s : State) (N A S T : List ℕ) {r : Answer} {S' T' : List �
 unfolding opened
 refused-zero s N A S T L e =
     zeros-after-7 (asked s N A S T) (decryption (held s) N A S T) (inputs (held s) N A S T) S T
-    (refusal-most (s .m) (length N) (length T) (length S) (length A)) L e
+    (refusal-most (s .values .m) (length N) (length A) (length S) (length T)) L e
 
-kept : (n : ℕ) (o : Outcome) (S T : List ℕ) {r : Answer} {S' T' : List ℕ} → Leaves (unless n S T o) r S' T' → (n ≡ 0 → r .number ≡ o .number → ⊥)
+kept : (n : ℕ) (o : Outcome) (S T : List ℕ) {r : Answer} {S' T' : List ℕ} → Leaves (unless n (untouched S T) o) r S' T' → (n ≡ 0 → r .number ≡ o .number → ⊥)
     → (S' ≡ S) × (T' ≡ T) × (r .calls ≡ 0)
 kept zero o S T L h = absurd (h refl (L .number))
 kept (suc n) o S T L h = (L .text-left, L .tag-left, L .calls)
@@ -73,17 +75,25 @@ sizes-untouched s N A S T h = (
   λ k L. kept (asked s N A S T) (decrypted (held s) N A S T) S T L (λ _ e. not-told (decryption (held s) N A S T) (inputs (held s) N A S T) S T h k e),
 )
 
-never : (n : ℕ) (s : State) → (madeUnless n s .number ≡ 0 → ⊥) → (nonce tag text ad : ℕ) → refusal (madeUnless n s .state .m) nonce tag text ad ≡ 2
-unfolding refusedSetUp
-never zero s h nonce tag text ad = absurd (h refl)
-never (suc n) s h nonce tag text ad = sym (refused-2 0 nonce tag text ad refl)
+never : (n : ℕ) (s : State) → (madeUnless n s .number ≡ 0 → ⊥) → (nonce ad text tag : ℕ) → refusal (madeUnless n s .state .values .m) nonce ad text tag ≡ 2
+unfolding zeroState refusal
+never zero s h nonce ad text tag = absurd (h refl)
+never (suc n) s h nonce ad text tag = first-at 0 (sizeRules 0 nonce ad text tag) tt refl
 
--- a refused set-up's state is answered with 2 forever
-pub refused-forever : (k : List ℕ) (m : ℕ) (u : SetUp) → u ≡ setUp k m → (u .number ≡ 0 → ⊥) → (nonce tag text ad : ℕ) → refusal (u .state .m) nonce tag text ad ≡ 2
-unfolding setUp
-refused-forever k m u e h nonce tag text ad =
-    ap (λ (v : SetUp). refusal (v .state .m) nonce tag text ad) e
-    ∙ never (setUpNumber (length k) m) (stateOf (keyExpansion 4 10 k) m) (λ z. h (ap (λ (v : SetUp). v .number) e ∙ z)) nonce tag text ad
+-- a refused set-up's state is answered with 2 forever, and nothing is changed
+pub refused-forever : (k : List ℕ) (m : ℕ) (u : SetUp) → u ≡ setUp k m → (u .number ≡ 0 → ⊥) → (N A S T : List ℕ) {r : Answer} {S' T' : List ℕ}
+    → (Leaves (sealed (u .state) N A S T) r S' T' → (r .number ≡ 2) × (r .calls ≡ 0) × (S' ≡ S) × (T' ≡ T))
+    × (Leaves (opened (u .state) N A S T) r S' T' → (r .number ≡ 2) × (r .calls ≡ 0) × (S' ≡ S) × (T' ≡ T))
+unfolding setUp sealed opened
+refused-forever k m u e h N A S T {r} {S'} {T'} =
+    let two : asked (u .state) N A S T ≡ 2 =
+    ap (λ (v : SetUp). asked (v .state) N A S T) e
+    ∙ never (setUpNumber (length k) m) (stateOf (keyExpansion keyWords aesRounds k) m) (λ z. h (ap (λ (v : SetUp). v .number) e ∙ z)) (length N) (length A) (length S) (length T) in (
+      λ L. let M = subst (λ (n : ℕ). Leaves (unless n (sealRefused S T) (encrypted (held (u .state)) N A S T)) r S' T') two L in
+          (M .number, M .calls, M .text-left, M .tag-left),
+      λ L. let M = subst (λ (n : ℕ). Leaves (unless n (openRefused S T) (decrypted (held (u .state)) N A S T)) r S' T') two L in
+          (M .number, M .calls, M .text-left, M .tag-left),
+    )
 
 -- ---- Demand 2: what seal and open do is RFC 7253's, over AES of FIPS 197
 
@@ -92,7 +102,7 @@ told (VALID P) calls S T L = (L .number, L .text-left)
 told INVALID calls S T L = (L .number, L .text-left)
 
 module _ {k : List ℕ} {m : ℕ} {u : SetUp} (made : MadeFrom k m u) (N A S T : List ℕ)
-    (sizes : InRange m (length N) (length T) (length S) (length A)) {r : Answer} {S' T' : List ℕ} where
+    (sizes : InRange m (length N) (length A) (length S) (length T)) {r : Answer} {S' T' : List ℕ} where
   pub seal-rfc : Leaves (sealed (u .state) N A S T) r S' T' → (r .number ≡ 0) × (S' ++ T' ≡ OCB-ENCRYPT (AES-128 k) (length T) N A S)
   seal-rfc L =
       let e = seal-is made N A S T sizes in (
@@ -106,13 +116,13 @@ module _ {k : List ℕ} {m : ℕ} {u : SetUp} (made : MadeFrom k m u) (N A S T :
 
   -- the count of calls is the number of blocks that RFC 7253's procedure hands to the cipher
   pub calls-seal : Leaves (sealed (u .state) N A S T) r S' T'
-      → (r .calls ≡ length (OCB-ENCRYPT-inputs (AES-128 k) (length T) N A S)) × (r .calls ≡ (length S + 15) / 16 + (length A + 15) / 16 + 2)
+      → (r .calls ≡ length (OCB-ENCRYPT-inputs (AES-128 k) (length T) N A S)) × (r .calls ≡ count (length A) (length S))
   calls-seal L =
       let e : r .calls ≡ length (OCB-ENCRYPT-inputs (AES-128 k) (length T) N A S) = L .calls ∙ ap (λ (o : Outcome). o .calls) (seal-is made N A S T sizes) in
       (e, e ∙ encrypt-calls (AES-128 k) (length T) N A S)
 
   pub calls-open : Leaves (opened (u .state) N A S T) r S' T'
-      → (r .calls ≡ length (OCB-DECRYPT-inputs (AES-128 k) (length T) N A (S ++ T))) × (r .calls ≡ (length S + 15) / 16 + (length A + 15) / 16 + 2)
+      → (r .calls ≡ length (OCB-DECRYPT-inputs (AES-128 k) (length T) N A (S ++ T))) × (r .calls ≡ count (length A) (length S))
   calls-open L =
       let e : r .calls ≡ length (OCB-DECRYPT-inputs (AES-128 k) (length T) N A (S ++ T)) =
       L .calls ∙ ap (λ (o : Outcome). o .calls) (open-is made N A S T sizes) ∙ verdict-calls (OCB-DECRYPT (AES-128 k) (length T) N A (S ++ T)) in
@@ -129,7 +139,7 @@ accepted-text (VALID P) S r S' t e = ap VALID (sym (t .1))
 accepted-text INVALID S r S' t e = absurd (omega (arith, t .0))
 
 module _ {k : List ℕ} {m : ℕ} {u : SetUp} (made : MadeFrom k m u) (N A S T : List ℕ)
-    (sizes : InRange m (length N) (length T) (length S) (length A)) (N-bytes : Bytes N) (S-bytes : Bytes S) where
+    (sizes : InRange m (length N) (length A) (length S) (length T)) (N-bytes : Bytes N) (S-bytes : Bytes S) where
   cipher : Cipher (AES-128 k)
   cipher = aes-cipher k (made .key-bytes)
 
@@ -140,7 +150,7 @@ module _ {k : List ℕ} {m : ℕ} {u : SetUp} (made : MadeFrom k m u) (N A S T :
   decrypts : (P : List ℕ) → Encrypts k N A P S T → OCB-DECRYPT (AES-128 k) (length T) N A (S ++ T) ≡ VALID P
   decrypts P E =
       ap (OCB-DECRYPT (AES-128 k) (length T) N A) (sym (E .gives))
-      ∙ decrypt-encrypt cipher (length T) N A (sizes .tag-size .most) first P (E .plain-bytes)
+      ∙ decrypt-encrypt cipher (length T) N A (sizes .tag-size .to) first P (E .plain-bytes)
 
   pub open-only : (P Q : List ℕ) → Encrypts k N A P S T → Encrypts k N A Q S T → P ≡ Q
   open-only P Q E F = let e : VALID P ≡ VALID Q = sym (decrypts P E) ∙ decrypts Q F in cc
@@ -150,8 +160,8 @@ module _ {k : List ℕ} {m : ℕ} {u : SetUp} (made : MadeFrom k m u) (N A S T :
     open-gives e =
         let D : OCB-DECRYPT (AES-128 k) (length T) N A (S ++ T) ≡ VALID S' = accepted-text (decryption (AES-128 k) N A S T) S r S' (open-rfc made N A S T sizes L) e in
         record {
-          plain-bytes = decrypt-bytes cipher (length T) N A (sizes .tag-size .most) first S T S' S-bytes refl D;
-          gives = encrypt-decrypt cipher (length T) N A (sizes .tag-size .most) first S T S' S-bytes refl D;
+          plain-bytes = decrypt-bytes cipher (length T) N A (sizes .tag-size .to) first S T S' S-bytes refl D;
+          gives = encrypt-decrypt cipher (length T) N A (sizes .tag-size .to) first S T S' S-bytes refl D;
         }
 
     pub open-exactly : (r .number ≡ 0) ↔ ((P : List ℕ) × Encrypts k N A P S T)
@@ -160,7 +170,8 @@ module _ {k : List ℕ} {m : ℕ} {u : SetUp} (made : MadeFrom k m u) (N A S T :
       λ p. subst (λ (D : Plaintext). Told D S r S') (decrypts (p .0) (p .1)) (open-rfc made N A S T sizes L) .0,
     )
 
-not-refused : (n : ℕ) (o : Outcome) (S T : List ℕ) {r : Answer} {S' T' : List ℕ} → Leaves (unless n S T o) r S' T' → r .number ≡ 0 → (n ≡ 0) × Leaves o r S' T'
+not-refused : (n : ℕ) (o : Outcome) (S T : List ℕ) {r : Answer} {S' T' : List ℕ} → Leaves (unless n (sealRefused S T) o) r S' T' → r .number ≡ 0
+    → (n ≡ 0) × Leaves o r S' T'
 not-refused zero o S T L e = (refl, L)
 not-refused (suc n) o S T L e = absurd (omega (arith, L .number))
 
@@ -174,19 +185,31 @@ seal-opens s h N A P T N-bytes P-bytes {r} {C} {T'} L e {q} {P'} {T''} M =
     let t : ℕ = length T in
     let E : List ℕ = OCB-ENCRYPT K t N A P in
     let done = not-refused (asked s N A P T) (encrypted K N A P T) P T L e in
-    let sizes : InRange (s .m) (length N) t (length P) (length A) = in-range (s .m) (length N) t (length P) (length A) (done .0) in
+    let sizes : InRange (s .values .m) (length N) (length A) (length P) t = in-range (s .values .m) (length N) (length A) (length P) t (done .0) in
     let cipher : Cipher K = held-cipher s h in
     let first : Block (Offset-0 K t N) = first-block K cipher t N (sizes .nonce-size) (sizes .tag-size) N-bytes in
-    let long : length E ≡ length P + t = encrypt-length cipher t N A (sizes .tag-size .most) first P P-bytes in
+    let long : length E ≡ length P + t = encrypt-length cipher t N A (sizes .tag-size .to) first P P-bytes in
     let text-long : length C ≡ length P = ap length (done .1 .text-left) ∙ length-take-le (length P) E (omega arith) in
     let tag-long : length T' ≡ t = ap length (done .1 .tag-left) ∙ length-drop (length P) E ∙ omega arith in
     let whole : C ++ T' ≡ E = ap₂ (λ (a b : List ℕ). a ++ b) (done .1 .text-left) (done .1 .tag-left) ∙ take-append-drop (length P) E in
-    let asks : asked s N A C T' ≡ 0 = ap₂ (λ (i j : ℕ). refusal (s .m) (length N) i j (length A)) tag-long text-long ∙ done .0 in
+    let asks : asked s N A C T' ≡ 0 = ap₂ (λ (i j : ℕ). refusal (s .values .m) (length N) (length A) j i) tag-long text-long ∙ done .0 in
     let valid : decryption K N A C T' ≡ VALID P =
-    ap₂ (λ (i : ℕ) (S : List ℕ). OCB-DECRYPT K i N A S) tag-long whole ∙ decrypt-encrypt cipher t N A (sizes .tag-size .most) first P P-bytes in
+    ap₂ (λ (i : ℕ) (S : List ℕ). OCB-DECRYPT K i N A S) tag-long whole ∙ decrypt-encrypt cipher t N A (sizes .tag-size .to) first P P-bytes in
     let left : Leaves (verdict (VALID P) (inputs K N A C T') C T') q P' T'' =
-    subst₂ (λ (n : ℕ) (D : Plaintext). Leaves (unless n C T' (verdict D (inputs K N A C T') C T')) q P' T'') asks valid M in
+    subst₂ (λ (n : ℕ) (D : Plaintext). Leaves (unless n (openRefused C T') (verdict D (inputs K N A C T') C T')) q P' T'') asks valid M in
     (left .number, left .text-left)
+
+-- a state made from a key holds bytes, so that what seal wrote under it opens too
+pub made-holds : {k : List ℕ} {m : ℕ} {u : SetUp} → MadeFrom k m u → HoldsBytes (u .state)
+made-holds {k} {m} {u} made =
+    let w : List ℕ = keyExpansion keyWords aesRounds k in
+    let w-bytes : Bytes w = expansion-bytes keyWords aesRounds k (made .key-bytes) in
+    subst⁻¹ HoldsBytes (made-state made) (state-holds-bytes w m w-bytes (made-places made))
+
+pub made-seal-opens : {k : List ℕ} {m : ℕ} {u : SetUp} → MadeFrom k m u → (N A P T : List ℕ) → Bytes N → Bytes P
+    → {r : Answer} {C T' : List ℕ} → Leaves (sealed (u .state) N A P T) r C T' → r .number ≡ 0
+    → {q : Answer} {P' T'' : List ℕ} → Leaves (opened (u .state) N A C T') q P' T'' → (q .number ≡ 0) × (P' ≡ P)
+made-seal-opens {u = u} made = seal-opens (u .state) (made-holds made)
 
 -- ---- The promises admit one answer
 

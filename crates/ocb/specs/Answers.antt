@@ -3,6 +3,7 @@ use mathlib.Core.Path.{_≡_}
 use mathlib.Core.List.{List, _++_}
 use Prim.Native.Nat.{ℕ, zero, suc}
 use lib.ListN.{length, take, drop}
+use Rattle.sizes.specs.Sizes.{keyWords, aesRounds, roundKeyBytes, tableBytes}
 use Rattle.standards.specs.Strings.{zeros}
 use Rattle.standards.specs.Fips197.{keyExpansion}
 use Rattle.standards.specs.Rfc7253.{Key, Plaintext, VALID, INVALID, OCB-ENCRYPT, OCB-ENCRYPT-inputs, OCB-DECRYPT, OCB-DECRYPT-inputs}
@@ -16,19 +17,19 @@ use Rattle.ocb.specs.declared.Answer.{Answer}
 -- ---- set_up
 
 -- zeros, and m = 0, which seal and open answer with 2
-unfoldable pub refusedSetUp : ℕ → SetUp
-refusedSetUp n = record {
-  number = n;
-  state = record { «round_keys» = zeros 176; star = zeros 16; dollar = zeros 16; m = 0; table = zeros 416 };
+unfoldable pub zeroState : State
+zeroState = record {
+  «round_keys» = zeros roundKeyBytes;
+  table = zeros tableBytes;
+  values = record { m = 0; star = zeros 16; dollar = zeros 16 };
 }
 
 abbrev pub madeUnless : ℕ → State → SetUp
 madeUnless zero state = record { number = 0; state = state }
-madeUnless (suc n) state = refusedSetUp (suc n)
+madeUnless (suc n) state = record { number = suc n; state = zeroState }
 
--- AES-128: four words, ten rounds
 unfoldable pub setUp : List ℕ → ℕ → SetUp
-setUp key m = madeUnless (setUpNumber (length key) m) (stateOf (keyExpansion 4 10 key) m)
+setUp key m = madeUnless (setUpNumber (length key) m) (stateOf (keyExpansion keyWords aesRounds key) m)
 
 -- ---- seal and open: the number, the count of cipher calls, and the text and the tag as they stand afterwards
 
@@ -38,10 +39,21 @@ pub record Outcome : Type 0 where
   pub text : List ℕ
   pub tag : List ℕ
 
--- a refusal by number changes nothing and calls nothing
-abbrev pub unless : ℕ → List ℕ → List ℕ → Outcome → Outcome
-unless zero text tag done = done
-unless (suc n) text tag done = record { number = suc n; calls = 0; text = text; tag = tag }
+-- nothing is called, and text and tag are as they were
+abbrev pub untouched : List ℕ → List ℕ → ℕ → Outcome
+untouched text tag n = record { number = n; calls = 0; text = text; tag = tag }
+
+-- what a refusal of the sizes by number leaves, of seal and of open
+abbrev pub sealRefused : List ℕ → List ℕ → ℕ → Outcome
+sealRefused P T n = untouched P T n
+
+abbrev pub openRefused : List ℕ → List ℕ → ℕ → Outcome
+openRefused C T n = untouched C T n
+
+-- the outcome of a refusal with this number, or of the work where it is 0
+abbrev pub unless : ℕ → (ℕ → Outcome) → Outcome → Outcome
+unless zero refused done = done
+unless (suc n) refused done = refused (suc n)
 
 -- by RFC 7253 under a key K, with a nonce N, associated data A, a text P and a tag place T: the ciphertext and the tag, each in its place
 abbrev pub encrypted : Key → List ℕ → List ℕ → List ℕ → List ℕ → Outcome
@@ -61,10 +73,10 @@ abbrev pub decrypted : Key → List ℕ → List ℕ → List ℕ → List ℕ �
 decrypted K N A C T = verdict (OCB-DECRYPT K (length T) N A (C ++ T)) (length (OCB-DECRYPT-inputs K (length T) N A (C ++ T))) C T
 
 unfoldable pub sealed : State → List ℕ → List ℕ → List ℕ → List ℕ → Outcome
-sealed s N A P T = unless (refusal (s .m) (length N) (length T) (length P) (length A)) P T (encrypted (held s) N A P T)
+sealed s N A P T = unless (refusal (s .values .m) (length N) (length A) (length P) (length T)) (sealRefused P T) (encrypted (held s) N A P T)
 
 unfoldable pub opened : State → List ℕ → List ℕ → List ℕ → List ℕ → Outcome
-opened s N A C T = unless (refusal (s .m) (length N) (length T) (length C) (length A)) C T (decrypted (held s) N A C T)
+opened s N A C T = unless (refusal (s .values .m) (length N) (length A) (length C) (length T)) (openRefused C T) (decrypted (held s) N A C T)
 
 -- THE PROMISE: the answer r, and the text and the tag that are left, are the outcome's
 pub record Leaves (o : Outcome) (r : Answer) (text tag : List ℕ) : Type 0 where

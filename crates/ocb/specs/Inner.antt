@@ -9,10 +9,10 @@ use Rattle.standards.specs.InBytes.{initialOffset}
 
 -- C and T' are left of the text P and the tag place T
 pub record Encrypted (K : Key) (N A P T C T' : List ℕ) : Type 0 where
-  pub text-is : C ≡ text sealBlock K (initialOffset K (length T) N) P
-  pub tag-is : let O = initialOffset K (length T) N in T' ≡ take (length T) (Tag K (sealSum K O P) (endOffset K O P) A)
+  pub text-is : C ≡ text sealBlock K (initialOffset (K .ENCIPHER) (length T) N) P
+  pub tag-is : let O = initialOffset (K .ENCIPHER) (length T) N in T' ≡ take (length T) (Tag K (sealSum K O P) (endOffset K O P) A)
 
 -- P is left of the ciphertext C; valid says whether T is its tag
 pub record Decrypted (K : Key) (N A C T P : List ℕ) (valid : Bool) : Type 0 where
-  pub text-is : P ≡ text openBlock K (initialOffset K (length T) N) C
-  pub valid-is : let O = initialOffset K (length T) N in valid ≡ same (take (length T) (Tag K (openSum K O C) (endOffset K O C) A)) T
+  pub text-is : P ≡ text openBlock K (initialOffset (K .ENCIPHER) (length T) N) C
+  pub valid-is : let O = initialOffset (K .ENCIPHER) (length T) N in valid ≡ same (take (length T) (Tag K (openSum K O C) (endOffset K O C) A)) T

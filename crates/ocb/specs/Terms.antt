@@ -31,6 +31,6 @@ Told INVALID S r S' = (r .number ≡ 7) × (S' ≡ zeros (length S))
 -- what a state holds are bytes, whoever made it: every State value of a program is so
 pub record HoldsBytes (s : State) : Type 0 where
   pub keys : Bytes (s .«round_keys»)
-  pub star : Bytes (s .star)
-  pub dollar : Bytes (s .dollar)
+  pub star : Bytes (s .values .star)
+  pub dollar : Bytes (s .values .dollar)
   pub table : Bytes (s .table)

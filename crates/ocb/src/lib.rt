@@ -1,12 +1,17 @@
 // OCB3 (RFC 7253) over AES-128 (FIPS 197): the entry points. Every input is answered. What each number leaves stands in specs/Answers.antt,
 // and what follows from it for states made from a key in proofs/Demands.antt.
+use ocb_variables::KeyValues;
 use ocb_variables::State;
+use sizes::ROUND_KEY_BYTES;
+use sizes::RoundKeys;
+use sizes::TABLE_BYTES;
+use sizes::Table;
 ghost use mathlib.Core.Path.{_≡_};
-ghost use Rattle.ocb.specs.Answers.{refusedSetUp, setUp, sealed, opened, Leaves};
-ghost use Rattle.ocb_numbers.specs.Numbers.{InRange};
-ghost use Rattle.ocb.specs.Inner.{Encrypted, Decrypted};
-ghost use Rattle.ocb_variables.specs.Held.{stateKey};
 ghost use lib.ListN.{length};
+ghost use Rattle.ocb_numbers.specs.Numbers.{InRange};
+ghost use Rattle.ocb_variables.specs.Held.{lentKey};
+ghost use Rattle.ocb.specs.Answers.{zeroState, setUp, sealed, opened, Leaves};
+ghost use Rattle.ocb.specs.Inner.{Encrypted, Decrypted};
 
 // What set_up gives: its number, and the state to seal and open with.
 pub struct SetUp {
@@ -20,23 +25,22 @@ pub struct Answer {
     pub calls: usize,
 }
 
-// A set-up that is refused gives zeros, which seal and open answer with 2.
-fn refused_set_up(number: usize) -> SetUp
-    ensures { λ r. ⌜ r ≡ refusedSetUp number ⌝ }
+// The state of a set-up that is refused: zeros, which seal and open answer with 2.
+fn zero_state() -> State
+    ensures { λ r. ⌜ r ≡ zeroState ⌝ }
 {
-    let keys = [0u8; 176];
+    let keys = [0u8; ROUND_KEY_BYTES];
+    let table = [0u8; TABLE_BYTES];
     let block = [0u8; 16];
-    let table = [0u8; 416];
-    let state = State {
-        round_keys: keys,
+    let values = KeyValues {
         star: block,
         dollar: block,
         m: 0,
-        table: table,
     };
-    SetUp {
-        number: number,
-        state: state,
+    State {
+        round_keys: keys,
+        values: values,
+        table: table,
     }
 }
 
@@ -46,11 +50,15 @@ pub fn set_up(key: &[u8], m: usize) -> SetUp
 {
     let number = ocb_numbers::refuse_set_up(key.len(), m);
     if number != 0 {
-        return refused_set_up(number);
+        let zeros = zero_state();
+        return SetUp {
+            number: number,
+            state: zeros,
+        };
     }
     let k = block::load(key, 0);
-    let sbox = field::sbox();
-    let state = ocb_variables::key_dependent_variables(&sbox, aes::expand_key(&k), m);
+    let tables = aes::encipher_tables();
+    let state = ocb_variables::key_dependent_variables(&tables, aes::expand_key(&k), m);
     SetUp {
         number: 0,
         state: state,
@@ -59,67 +67,67 @@ pub fn set_up(key: &[u8], m: usize) -> SetUp
 
 // Seals a text whose sizes are in range, with the parts of a state lent.
 fn encrypt(
-    rk: &[u8; 176],
-    table: &[u8; 416],
-    m: usize,
-    star: [u8; 16],
-    dollar: [u8; 16],
+    rk: &RoundKeys,
+    table: &Table,
+    v: KeyValues,
     nonce: &[u8],
     ad: &[u8],
     text: &mut [u8],
     tag: &mut [u8],
 )
-    requires { ⌜ InRange m (length (now nonce)) (length (now tag)) (length (now text)) (length (now ad)) ⌝ }
-    ensures { λ _. ⌜ Encrypted (stateKey (now (rk .entry)) star dollar (now (table .entry))) (now (nonce .entry)) (now (ad .entry)) (now (text .entry)) (now (tag .entry)) (now (text .exit)) (now (tag .exit)) ⌝ }
+    requires { ⌜ InRange (v .m) (length (now nonce)) (length (now ad)) (length (now text)) (length (now tag)) ⌝ }
+    ensures { λ _. ⌜
+        Encrypted (lentKey (now (rk .entry)) (now (table .entry)) v)
+        (now (nonce .entry)) (now (ad .entry)) (now (text .entry)) (now (tag .entry)) (now (text .exit)) (now (tag .exit)) ⌝ }
 {
-    let sbox = field::sbox();
-    let offset = ocb_variables::initial_offset(&sbox, rk, nonce, tag.len());
-    let run = ocb_walk::seal::encrypt_text(&sbox, rk, table, m, star, offset, text);
-    let computed = ocb_walk::tag::compute_tag(&sbox, rk, table, m, star, dollar, run, ad);
+    let tables = aes::encipher_tables();
+    let offset = ocb_variables::initial_offset(&tables, rk, nonce, tag.len());
+    let run = ocb_walk::text::encrypt_text(&tables, rk, table, v, offset, text);
+    let computed = ocb_walk::tag::compute_tag(&tables, rk, table, v, run, ad);
     ocb_walk::tag::write_tag(computed, tag);
 }
 
 // Opens a text whose sizes are in range, with the parts of a state lent, and says whether the tag is the text's.
 fn decrypt(
-    rk: &[u8; 176],
-    table: &[u8; 416],
-    m: usize,
-    star: [u8; 16],
-    dollar: [u8; 16],
+    rk: &RoundKeys,
+    table: &Table,
+    v: KeyValues,
     nonce: &[u8],
     ad: &[u8],
     text: &mut [u8],
     tag: &[u8],
 ) -> bool
-    requires { ⌜ InRange m (length (now nonce)) (length (now tag)) (length (now text)) (length (now ad)) ⌝ }
-    ensures { λ valid. ⌜ Decrypted (stateKey (now (rk .entry)) star dollar (now (table .entry))) (now (nonce .entry)) (now (ad .entry)) (now (text .entry)) (now (tag .entry)) (now (text .exit)) valid ⌝ }
+    requires { ⌜ InRange (v .m) (length (now nonce)) (length (now ad)) (length (now text)) (length (now tag)) ⌝ }
+    ensures { λ valid. ⌜
+        Decrypted (lentKey (now (rk .entry)) (now (table .entry)) v)
+        (now (nonce .entry)) (now (ad .entry)) (now (text .entry)) (now (tag .entry)) (now (text .exit)) valid ⌝ }
 {
-    let sbox = field::sbox();
-    let inv = field::inv_sbox();
-    let offset = ocb_variables::initial_offset(&sbox, rk, nonce, tag.len());
-    let run = ocb_walk::open::decrypt_text(&sbox, &inv, rk, table, m, star, offset, text);
-    let computed = ocb_walk::tag::compute_tag(&sbox, rk, table, m, star, dollar, run, ad);
+    let forward = aes::encipher_tables();
+    let backward = aes::decipher_tables();
+    let offset = ocb_variables::initial_offset(&forward, rk, nonce, tag.len());
+    let run = ocb_walk::text::decrypt_text(&forward, &backward, rk, table, v, offset, text);
+    let computed = ocb_walk::tag::compute_tag(&forward, rk, table, v, run, ad);
     ocb_walk::tag::tags_equal(computed, tag)
 }
 
 // Seals the text where it lies and writes the tag over the whole tag place, whose length is the tag's. A refusal changes neither.
 pub fn seal(s: State, nonce: &[u8], ad: &[u8], text: &mut [u8], tag: &mut [u8]) -> Answer
-    ensures { λ r. ⌜ Leaves (sealed s (now (nonce .entry)) (now (ad .entry)) (now (text .entry)) (now (tag .entry))) r (now (text .exit)) (now (tag .exit)) ⌝ }
+    ensures { λ r. ⌜
+        Leaves (sealed s (now (nonce .entry)) (now (ad .entry)) (now (text .entry)) (now (tag .entry)))
+        r (now (text .exit)) (now (tag .exit)) ⌝ }
 {
-    let m = s.m;
-    let number = ocb_numbers::refuse(m, nonce.len(), tag.len(), text.len(), ad.len());
+    let v = s.values;
+    let number = ocb_numbers::refuse(v.m, nonce.len(), ad.len(), text.len(), tag.len());
     if number != 0 {
         return Answer {
             number: number,
             calls: 0,
         };
     }
-    let calls = ocb_numbers::calls(text.len(), ad.len());
+    let calls = ocb_numbers::calls(ad.len(), text.len());
     let rk = s.round_keys;
     let table = s.table;
-    let star = s.star;
-    let dollar = s.dollar;
-    encrypt(&rk, &table, m, star, dollar, nonce, ad, text, tag);
+    encrypt(&rk, &table, v, nonce, ad, text, tag);
     Answer {
         number: 0,
         calls: calls,
@@ -128,22 +136,22 @@ pub fn seal(s: State, nonce: &[u8], ad: &[u8], text: &mut [u8], tag: &mut [u8]) 
 
 // Opens the text where it lies. If the tag is not the text's, every byte of the text is zero; a refusal of the sizes changes nothing.
 pub fn open(s: State, nonce: &[u8], ad: &[u8], text: &mut [u8], tag: &[u8]) -> Answer
-    ensures { λ r. ⌜ Leaves (opened s (now (nonce .entry)) (now (ad .entry)) (now (text .entry)) (now (tag .entry))) r (now (text .exit)) (now (tag .entry)) ⌝ }
+    ensures { λ r. ⌜
+        Leaves (opened s (now (nonce .entry)) (now (ad .entry)) (now (text .entry)) (now (tag .entry)))
+        r (now (text .exit)) (now (tag .entry)) ⌝ }
 {
-    let m = s.m;
-    let number = ocb_numbers::refuse(m, nonce.len(), tag.len(), text.len(), ad.len());
+    let v = s.values;
+    let number = ocb_numbers::refuse(v.m, nonce.len(), ad.len(), text.len(), tag.len());
     if number != 0 {
         return Answer {
             number: number,
             calls: 0,
         };
     }
-    let calls = ocb_numbers::calls(text.len(), ad.len());
+    let calls = ocb_numbers::calls(ad.len(), text.len());
     let rk = s.round_keys;
     let table = s.table;
-    let star = s.star;
-    let dollar = s.dollar;
-    if decrypt(&rk, &table, m, star, dollar, nonce, ad, text, tag) {
+    if decrypt(&rk, &table, v, nonce, ad, text, tag) {
         return Answer {
             number: 0,
             calls: calls,

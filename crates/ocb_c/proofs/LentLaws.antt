@@ -1,13 +1,14 @@
 -- The exported functions against the entry points: the buffer's size is tested first, and behind that test each is the entry point over the
 -- state that the buffer holds. A buffer that ocb_set_up wrote holds the state that set_up gives. Assumes nothing.
 use mathlib.Core.Path.{_≡_, refl, sym, ap, subst, _∙_}
-use mathlib.Core.Bool.{Bool, true, false, not}
+use mathlib.Core.Bool.{not}
 use mathlib.Core.List.{List}
 use Prim.Native.Nat.{ℕ, zero, suc, _≤_}
 use native.Mathlib.Omega.{arith}
-use borrow.Author.Tests.{eqb-true, eq-eqb, ne-eqb}
+use borrow.Author.Tests.{eqb-true, not-false, eq-eqb, ne-eqb}
 use lib.Dec.{eqb, lit<, lit≤}
 use lib.ListN.{length}
+use Rattle.sizes.specs.Sizes.{keyWords, keyBytes, aesRounds, places}
 use Rattle.standards.specs.Strings.{Bytes}
 use Rattle.standards.specs.Fips197.{keyExpansion}
 use Rattle.aes.proofs.Expansion.{expansion-bytes, expansion-length}
@@ -16,32 +17,31 @@ use Rattle.ocb_variables.specs.State.{stateOf}
 use Rattle.ocb_variables.proofs.KeyLaws.{state-sized}
 use Rattle.ocb.specs.declared.SetUp.{SetUp}
 use Rattle.ocb.specs.declared.Answer.{Answer}
-use Rattle.ocb_numbers.specs.Numbers.{choose, setUpNumber}
+use Rattle.ocb_numbers.specs.Numbers.{setUpNumber}
+use Rattle.ocb_numbers.proofs.RuleLaws.{first-at, first-none, none-applies}
 use Rattle.ocb_numbers.proofs.Refusals.{set-up-sizes}
-use Rattle.ocb.specs.Answers.{refusedSetUp, madeUnless, setUp, Outcome, unless, Leaves}
+use Rattle.ocb.specs.Answers.{zeroState, madeUnless, setUp, Outcome, untouched, unless, Leaves}
 use Rattle.ocb.proofs.Outcomes.{by-number, by-none}
 use Rattle.ocb.proofs.Demands.{single}
-use Rattle.ocb_c.specs.Buffer.{encoded, decoded}
-use Rattle.ocb_c.specs.Lent.{sizeNumber, into, setUpIn, Kept, sealedIn, openedIn}
+use Rattle.ocb_c.specs.Buffer.{stateSize, encoded, decoded}
+use Rattle.ocb_c.specs.Lent.{bufferRules, sizeNumber, into, setUpIn, Kept, sealedIn, openedIn}
 use Rattle.ocb_c.proofs.BufferLaws.{Sizes, decode-encode}
 
 -- ---- the buffer's size
 
-pub size-wrong : (B : List ℕ) → (length B ≡ 632 → ⊥) → 40 ≡ sizeNumber B
+pub size-wrong : (B : List ℕ) → (length B ≡ stateSize → ⊥) → 40 ≡ sizeNumber B
 unfolding sizeNumber
-size-wrong B h = sym (simp (ne-eqb (length B) 632 h))
+size-wrong B h = sym (first-at 0 (bufferRules B) tt (ap not (ne-eqb (length B) stateSize h)))
 
-pub size-right : (B : List ℕ) → length B ≡ 632 → 0 ≡ sizeNumber B
+pub size-right : (B : List ℕ) → length B ≡ stateSize → 0 ≡ sizeNumber B
 unfolding sizeNumber
-size-right B h = sym (simp (eq-eqb (length B) 632 h))
+size-right B h = sym (first-none (bufferRules B) (ap not (eq-eqb (length B) stateSize h), tt))
 
-pub admitted : (B : List ℕ) → sizeNumber B ≡ 0 → length B ≡ 632
+pub admitted : (B : List ℕ) → sizeNumber B ≡ 0 → length B ≡ stateSize
 unfolding sizeNumber
-admitted B e = go (eqb (length B) 632) refl e
-  where
-    go : (b : Bool) → eqb (length B) 632 ≡ b → choose (not b) 40 0 ≡ 0 → length B ≡ 632
-    go true p q = eqb-true (length B) 632 p
-    go false p q = absurd (omega arith)
+admitted B e =
+    let none = none-applies 40 (bufferRules B) (lit< tt, lit≤ tt, tt) e in
+    eqb-true (length B) stateSize (not-false (eqb (length B) stateSize) (none .0))
 
 -- ---- refused by the size, or done
 
@@ -62,27 +62,27 @@ module _ {n : ℕ} (B : List ℕ) (e : n ≡ sizeNumber B) where
       (record { number-is = ap (λ (v : SetUp). v .number) eu; buffer-left = eb ∙ ap (λ (v : SetUp). encoded (v .state)) eu })
 
   -- seal and open alike: o is what the entry point leaves
-  pub refused : (o : Outcome) (S T : List ℕ) → (n ≡ 0 → ⊥) → Leaves (unless (sizeNumber B) S T o) (record { number = n; calls = 0 }) S T
+  pub refused : (o : Outcome) (S T : List ℕ) → (n ≡ 0 → ⊥) → Leaves (unless (sizeNumber B) (untouched S T) o) (record { number = n; calls = 0 }) S T
   refused o S T h = by-number o S T e h
 
-  pub done : {r : Answer} {s : State} {S' T' : List ℕ} (answer : State → Outcome) (S T : List ℕ) → n ≡ 0 → s ≡ decoded B → Leaves (answer s) r S' T'
-      → Leaves (unless (sizeNumber B) S T (answer (decoded B))) r S' T'
-  done {r} {s} {S'} {T'} answer S T z es L =
-      by-none S T e z (subst (λ (v : State). Leaves (answer v) r S' T') es L)
+  pub done : {r : Answer} {s : State} {S' T' : List ℕ} (answer : State → Outcome) (refuse : ℕ → Outcome) → n ≡ 0 → s ≡ decoded B → Leaves (answer s) r S' T'
+      → Leaves (unless (sizeNumber B) refuse (answer (decoded B))) r S' T'
+  done {r} {s} {S'} {T'} answer refuse z es L =
+      by-none refuse e z (subst (λ (v : State). Leaves (answer v) r S' T') es L)
 
 -- ---- the state that set_up gives, in the buffer that ocb_set_up leaves
 
-refused-sizes : (n : ℕ) → Sizes (refusedSetUp n .state)
-unfolding refusedSetUp
-refused-sizes n = record { keys = refl; star = refl; dollar = refl; places = lit< tt; table = refl }
+refused-sizes : Sizes zeroState
+unfolding zeroState
+refused-sizes = record { keys = refl; star = refl; dollar = refl; places = lit< tt; table = refl }
 
-made-sizes : (key : List ℕ) (m : ℕ) → Bytes key → length key ≡ 16 → m ≤ 26 → Sizes (stateOf (keyExpansion 4 10 key) m)
+made-sizes : (key : List ℕ) (m : ℕ) → Bytes key → length key ≡ keyBytes → m ≤ places → Sizes (stateOf (keyExpansion keyWords aesRounds key) m)
 unfolding stateOf
 made-sizes key m bytes h hm =
-    let w : List ℕ = keyExpansion 4 10 key in
-    let made = state-sized w m (expansion-bytes 4 10 key bytes) hm in
+    let w : List ℕ = keyExpansion keyWords aesRounds key in
+    let made = state-sized w m (expansion-bytes keyWords aesRounds key bytes) hm in
     record {
-      keys = expansion-length 4 10 key h (lit≤ tt);
+      keys = expansion-length keyWords aesRounds key h (lit≤ tt);
       star = made .star .size;
       dollar = made .dollar .size;
       places = omega arith;
@@ -93,12 +93,12 @@ state-sizes : (key : List ℕ) (m : ℕ) → Bytes key → Sizes (setUp key m .s
 unfolding setUp
 state-sizes key m bytes = go (setUpNumber (length key) m) refl
   where
-    go : (n : ℕ) → setUpNumber (length key) m ≡ n → Sizes (madeUnless n (stateOf (keyExpansion 4 10 key) m) .state)
-    go zero e = let sizes = set-up-sizes (length key) m e in made-sizes key m bytes (sizes .0) (sizes .1 .most)
-    go (suc n) e = refused-sizes (suc n)
+    go : (n : ℕ) → setUpNumber (length key) m ≡ n → Sizes (madeUnless n (stateOf (keyExpansion keyWords aesRounds key) m) .state)
+    go zero e = let sizes = set-up-sizes (length key) m e in made-sizes key m bytes (sizes .0) (sizes .1 .to)
+    go (suc n) e = refused-sizes
 
 -- ocb_seal and ocb_open then go on from just that state
-pub set-up-held : (B key : List ℕ) (m : ℕ) → Bytes key → length B ≡ 632 → decoded (setUpIn B key m .buffer) ≡ setUp key m .state
+pub set-up-held : (B key : List ℕ) (m : ℕ) → Bytes key → length B ≡ stateSize → decoded (setUpIn B key m .buffer) ≡ setUp key m .state
 unfolding setUpIn
 set-up-held B key m hk h =
     ap (λ (n : ℕ). decoded (into n B (setUp key m) .buffer)) (sym (size-right B h))

@@ -1,22 +1,38 @@
--- A state in a buffer of bytes: round keys (176), L_* (16), L_$ (16), m (8, the highest byte first) and the table of L values (416), 632 in all.
+-- A state in a buffer of bytes, its parts one behind the other: round keys, L_*, L_$, m (8 bytes, the highest first) and the table of L values.
 use mathlib.Core.List.{List, _++_}
-use Prim.Native.Nat.{ℕ}
+use Prim.Native.Nat.{ℕ, _+_}
 use lib.ListN.{take, drop}
+use Rattle.sizes.specs.Sizes.{roundKeyBytes, tableBytes}
 use Rattle.standards.specs.Strings.{num, toBytes}
 use Rattle.ocb_variables.specs.declared.State.{State}
 
+-- where each part behind the round keys starts, and how many bytes there are in all
+abbrev pub starAt : ℕ
+starAt = roundKeyBytes
+
+abbrev pub dollarAt : ℕ
+dollarAt = starAt + 16
+
+abbrev pub mAt : ℕ
+mAt = dollarAt + 16
+
+abbrev pub tableAt : ℕ
+tableAt = mAt + 8
+
 abbrev pub stateSize : ℕ
-stateSize = 632
+stateSize = tableAt + tableBytes
 
 unfoldable pub encoded : State → List ℕ
-encoded s = s .«round_keys» ++ (s .star ++ (s .dollar ++ (toBytes 8 (s .m) ++ s .table)))
+encoded s = s .«round_keys» ++ (s .values .star ++ (s .values .dollar ++ (toBytes 8 (s .values .m) ++ s .table)))
 
 -- whatever the bytes are
 unfoldable pub decoded : List ℕ → State
 decoded B = record {
-  «round_keys» = take 176 B;
-  star = take 16 (drop 176 B);
-  dollar = take 16 (drop 192 B);
-  m = num (take 8 (drop 208 B));
-  table = take 416 (drop 216 B);
+  «round_keys» = take roundKeyBytes B;
+  values = record {
+    star = take 16 (drop starAt B);
+    dollar = take 16 (drop dollarAt B);
+    m = num (take 8 (drop mAt B));
+  };
+  table = take tableBytes (drop tableAt B);
 }

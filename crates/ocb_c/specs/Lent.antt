@@ -7,13 +7,16 @@ use Prim.Native.Nat.{ℕ, zero, suc}
 use lib.Dec.{eqb}
 use lib.ListN.{length}
 use Rattle.ocb.specs.declared.SetUp.{SetUp}
-use Rattle.ocb_numbers.specs.Numbers.{_if_, first}
-use Rattle.ocb.specs.Answers.{setUp, Outcome, unless, sealed, opened}
+use Rattle.ocb_numbers.specs.Numbers.{Rule, _if_, first}
+use Rattle.ocb.specs.Answers.{setUp, Outcome, sealRefused, openRefused, unless, sealed, opened}
 use Rattle.ocb_c.specs.Buffer.{stateSize, encoded, decoded}
 
 -- 40 where the buffer has not the size of a state. It goes before every other number: such a buffer holds no state to look at, and no place for one.
+abbrev pub bufferRules : List ℕ → List Rule
+bufferRules B = (40 if not (eqb (length B) stateSize)) ∷ []
+
 unfoldable pub sizeNumber : List ℕ → ℕ
-sizeNumber B = first ((40 if not (eqb (length B) stateSize)) ∷ [])
+sizeNumber B = first (bufferRules B)
 
 -- ---- set up
 
@@ -37,7 +40,7 @@ pub record Kept (o : InBuffer) (number : ℕ) (B' : List ℕ) : Type 0 where
 -- ---- seal and open, under the state that the buffer B holds; their promise is ocb's `Leaves`
 
 unfoldable pub sealedIn : List ℕ → List ℕ → List ℕ → List ℕ → List ℕ → Outcome
-sealedIn B N A P T = unless (sizeNumber B) P T (sealed (decoded B) N A P T)
+sealedIn B N A P T = unless (sizeNumber B) (sealRefused P T) (sealed (decoded B) N A P T)
 
 unfoldable pub openedIn : List ℕ → List ℕ → List ℕ → List ℕ → List ℕ → Outcome
-openedIn B N A C T = unless (sizeNumber B) C T (opened (decoded B) N A C T)
+openedIn B N A C T = unless (sizeNumber B) (openRefused C T) (opened (decoded B) N A C T)

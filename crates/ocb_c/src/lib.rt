@@ -1,7 +1,10 @@
 // OCB3 over AES-128 for programs in C and Rust: exported functions over numbers and byte slices. A slice is passed as its address and then
 // its length. The state of a key lives in a buffer that the caller lends; specs/Buffer.antt says how it lies there. include/ocb.h is the
 // same for a reader of C.
+use ocb_variables::KeyValues;
 use ocb_variables::State;
+use sizes::ROUND_KEY_BYTES;
+use sizes::TABLE_BYTES;
 ghost use mathlib.Core.Path.{_≡_};
 ghost use lib.ListN.{length};
 ghost use Rattle.ocb.specs.Answers.{Leaves};
@@ -10,36 +13,36 @@ ghost use Rattle.ocb_c.specs.Lent.{sizeNumber, setUpIn, Kept, sealedIn, 
 
 // ---- A state in a buffer
 
-// Writes the bytes of `from` over `to`, which is as long.
-fn copy(from: &[u8], to: &mut [u8])
-    requires { ⌜ length (now from) ≡ length (now to) ⌝ }
-    ensures { λ _. ⌜ now (to .exit) ≡ now (from .entry) ⌝ }
-{
-    let n = from.len();
-    let mut i = 0;
-    while i < n {
-        to[i] = from[i];
-        i += 1;
-    }
-}
+const STAR_AT: usize = ROUND_KEY_BYTES;
+
+const DOLLAR_AT: usize = STAR_AT + 16;
+
+const M_AT: usize = DOLLAR_AT + 16;
+
+const TABLE_AT: usize = M_AT + 8;
+
+const STATE_SIZE: usize = TABLE_AT + TABLE_BYTES;
 
 // The state that a buffer holds.
 fn decode(buffer: &[u8]) -> State
     requires { ⌜ length (now buffer) ≡ stateSize ⌝ }
     ensures { λ r. ⌜ r ≡ decoded (now (buffer .entry)) ⌝ }
 {
-    let mut round_keys = [0u8; 176];
-    copy(&buffer[0..176], &mut round_keys);
-    let star = block::load(buffer, 176);
-    let dollar = block::load(buffer, 192);
-    let m = block::load_be64(buffer, 208) as usize;
-    let mut table = [0u8; 416];
-    copy(&buffer[216..632], &mut table);
-    State {
-        round_keys: round_keys,
+    let mut round_keys = [0u8; ROUND_KEY_BYTES];
+    bytes::copy(&buffer[0..STAR_AT], &mut round_keys);
+    let star = block::load(buffer, STAR_AT);
+    let dollar = block::load(buffer, DOLLAR_AT);
+    let m = block::load_be64(buffer, M_AT) as usize;
+    let mut table = [0u8; TABLE_BYTES];
+    bytes::copy(&buffer[TABLE_AT..STATE_SIZE], &mut table);
+    let values = KeyValues {
         star: star,
         dollar: dollar,
         m: m,
+    };
+    State {
+        round_keys: round_keys,
+        values: values,
         table: table,
     }
 }
@@ -49,16 +52,17 @@ fn encode(s: State, buffer: &mut [u8])
     requires { ⌜ length (now buffer) ≡ stateSize ⌝ }
     ensures { λ _. ⌜ now (buffer .exit) ≡ encoded s ⌝ }
 {
+    let values = s.values;
+    let star = values.star;
+    let dollar = values.dollar;
+    let m = values.m as u64;
     let round_keys = s.round_keys;
-    let star = s.star;
-    let dollar = s.dollar;
-    let m = s.m as u64;
     let table = s.table;
-    copy(&round_keys, &mut buffer[0..176]);
-    block::store(buffer, 176, star);
-    block::store(buffer, 192, dollar);
-    block::store_be64(&mut buffer[208..216], m);
-    copy(&table, &mut buffer[216..632]);
+    block::copy_at(buffer, 0, &round_keys);
+    block::store(buffer, STAR_AT, star);
+    block::store(buffer, DOLLAR_AT, dollar);
+    block::store_be64(&mut buffer[M_AT..TABLE_AT], m);
+    block::copy_at(buffer, TABLE_AT, &table);
 }
 
 // How many bytes the buffer of a state has.
@@ -66,14 +70,14 @@ fn encode(s: State, buffer: &mut [u8])
 pub extern "C" fn ocb_state_size() -> usize
     ensures { λ r. ⌜ r ≡ stateSize ⌝ }
 {
-    632
+    STATE_SIZE
 }
 
 // The number that a buffer's length asks for: 40 where it is not a state's.
 fn refuse_size(buffer: &[u8]) -> usize
     ensures { λ r. ⌜ r ≡ sizeNumber (now (buffer .entry)) ⌝ }
 {
-    if buffer.len() != 632 {
+    if buffer.len() != STATE_SIZE {
         return 40;
     }
     0
@@ -105,7 +109,9 @@ pub extern "C" fn ocb_seal(
     tag: &mut [u8],
     calls: &mut usize,
 ) -> usize
-    ensures { λ r. ⌜ Leaves (sealedIn (now (state .entry)) (now (nonce .entry)) (now (ad .entry)) (now (text .entry)) (now (tag .entry))) (record { number = r; calls = now (calls .exit) }) (now (text .exit)) (now (tag .exit)) ⌝ }
+    ensures { λ r. ⌜
+        Leaves (sealedIn (now (state .entry)) (now (nonce .entry)) (now (ad .entry)) (now (text .entry)) (now (tag .entry)))
+        (record { number = r; calls = now (calls .exit) }) (now (text .exit)) (now (tag .exit)) ⌝ }
 {
     let refused = refuse_size(state);
     if refused != 0 {
@@ -127,7 +133,9 @@ pub extern "C" fn ocb_open(
     tag: &[u8],
     calls: &mut usize,
 ) -> usize
-    ensures { λ r. ⌜ Leaves (openedIn (now (state .entry)) (now (nonce .entry)) (now (ad .entry)) (now (text .entry)) (now (tag .entry))) (record { number = r; calls = now (calls .exit) }) (now (text .exit)) (now (tag .entry)) ⌝ }
+    ensures { λ r. ⌜
+        Leaves (openedIn (now (state .entry)) (now (nonce .entry)) (now (ad .entry)) (now (text .entry)) (now (tag .entry)))
+        (record { number = r; calls = now (calls .exit) }) (now (text .exit)) (now (tag .entry)) ⌝ }
 {
     let refused = refuse_size(state);
     if refused != 0 {

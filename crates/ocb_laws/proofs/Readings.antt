@@ -257,7 +257,7 @@ module _ (t : ℕ) (N : List ℕ) (least : 6 ≤ length N) (most : length N ≤ 
   top-same = sym (high-bits (nonceBlock t N) nonce-block) ∙ ap (λ (S : List ℕ). bytes (part S 1 122 ++ zeros 6)) nonce-same
 
   -- THE FIRST OFFSET IS THE SAME IN BOTH READINGS, for a cipher that gives blocks
-  pub offset-same : (K : Key) → ((b : List ℕ) → Block b → Block (K .ENCIPHER b)) → initialOffset K t N ≡ Offset-0 K t N
+  pub offset-same : (K : Key) → ((b : List ℕ) → Block b → Block (K .ENCIPHER b)) → initialOffset (K .ENCIPHER) t N ≡ Offset-0 K t N
   unfolding initialOffset Offset-0
   offset-same K blocks =
       let b : List ℕ = nonceBlock t N in

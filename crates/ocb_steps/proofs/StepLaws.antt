@@ -1,63 +1,103 @@
--- From what a step's calls ensure to what the step ensures, over plain values; for what makes the block and what the checksum takes.
--- Assumes nothing.
-use mathlib.Core.Path.{_≡_, refl, sym, ap, _∙_}
-use mathlib.Core.List.{List, [], _∷_, _++_}
-use Prim.Native.Nat.{ℕ, _+_, _^_, _<_, _≤_}
-use native.Mathlib.Nat.{lt-of-lt-of-le, not-suc-le-zero}
+-- From what a step's calls ensure to what the step ensures, over plain values. Assumes nothing.
+use mathlib.Core.Path.{_≡_, refl, sym, ap, ap₂, subst⁻¹, _∙_}
+use mathlib.Core.Bool.{Bool}
+use mathlib.Core.List.{List, [], _∷_, _++_, append-nil}
+use Prim.Native.Nat.{ℕ, _+_, _<_}
+use native.Mathlib.Nat.{not-suc-le-zero}
 use native.Mathlib.Omega.{arith}
-use lib.ListN.{length, take, drop}
-use lib.Pow.{pow-mono}
-use lib.Seq.{take-at, drop-at, take-all}
+use lib.ListN.{length, take, drop, length-append, length-drop, drop-of-length-le}
+use lib.Seq.{take-at, take-all}
 use Rattle.standards.specs.Strings.{_xor_}
-use Rattle.standards.specs.Rfc7253.{Key, ntz, blockAt, plainBlock, padded, lastText, lastHash}
+use Rattle.standards.specs.Rfc7253.{Key, ntz, blockAt, hashBlock, padded, lastText, lastHash}
 use Rattle.block.proofs.StringLaws.{xor-take}
 use Rattle.ocb_steps.specs.declared.Run.{Run}
-use Rattle.ocb_steps.specs.Steps.{next, One, Two, Last}
-use Rattle.ocb_steps.proofs.Lists.{stored-one, stored-two}
+use Rattle.ocb_steps.specs.Steps.{turned, summed, nextOffset, after, One, Two, Last}
 
--- a block number, which is below 2 ^ m with m at most 26, fits
-pub number-fits : (m n : ℕ) → n < 2 ^ m → m ≤ 26 → n < 67108864
-number-fits m n h l = lt-of-lt-of-le h (pow-mono l)
+-- ---- a store over the whole of a block, and two over a pair
 
-module _ (f g : List ℕ → List ℕ → List ℕ) (K : Key) (i : ℕ) where
-  pub one-made : {S S' b c x : List ℕ} {r r' : Run} → length S ≡ 16
-      → b ≡ take 16 (drop 0 S) → r' .offset ≡ r .offset xor K .L (ntz (i + 1))
-      → c ≡ f (r' .offset) b → x ≡ g (r' .offset) b → r' .sum ≡ r .sum xor x
-      → S' ≡ take 0 S ++ (c ++ drop 16 S)
-      → One f g K i S r S' r'
-  unfolding next blockAt
-  one-made {S} {c = c} h eb eo ec ex es et =
-      let e = et ∙ stored-one S c h in
-      record { offset = eo; sum = cc; text = cc }
+stored-one : (S b : List ℕ) → length S ≡ 16 → take 0 S ++ (b ++ drop 16 S) ≡ b
+stored-one S b h = ap (λ (x : List ℕ). b ++ x) (drop-of-length-le S {i = 16} (omega arith)) ∙ append-nil b
 
-  pub two-made : {S T S' b1 b2 c1 c2 x1 x2 o s : List ℕ} {r r' : Run} → length S ≡ 32 → length c1 ≡ 16 → length c2 ≡ 16
-      → b1 ≡ take 16 (drop 0 S) → b2 ≡ take 16 (drop 16 S)
-      → o ≡ r .offset xor K .L (ntz (i + 1)) → r' .offset ≡ o xor K .L (ntz (i + 2))
-      → c1 ≡ f o b1 → c2 ≡ f (r' .offset) b2 → x1 ≡ g o b1 → x2 ≡ g (r' .offset) b2 → s ≡ r .sum xor x1 → r' .sum ≡ s xor x2
-      → T ≡ take 0 S ++ (c1 ++ drop 16 S) → S' ≡ take 16 T ++ (c2 ++ drop 32 T)
-      → Two f g K i S r S' r'
-  unfolding next blockAt
-  two-made {S} {T} {S'} {c1 = c1} {c2} h h1 h2 eb1 eb2 eo1 eo2 ec1 ec2 ex1 ex2 es1 es2 eT eS' =
-      let e : S' ≡ c1 ++ c2 = eS' ∙ stored-two S T c1 c2 h h1 eT in
-      let e1 : take 16 (drop 0 S') ≡ c1 = ap (take 16) e ∙ take-at c1 c2 16 h1 in
-      let e2 : take 16 (drop 16 S') ≡ c2 = ap (λ (x : List ℕ). take 16 (drop 16 x)) e ∙ ap (take 16) (drop-at c1 c2 16 h1) ∙ take-all 16 c2 (omega arith) in
-      record { offset = cc; sum = cc; first = cc; second = cc }
+stored-two : (S T b c : List ℕ) → length S ≡ 32 → length b ≡ 16 → T ≡ take 0 S ++ (b ++ drop 16 S) → take 16 T ++ (c ++ drop 32 T) ≡ b ++ c
+stored-two S T b c hS hb e =
+    let hT : length T ≡ 32 = ap length e ∙ simp (length-append, length-drop) (omega arith) in
+    ap₂ (λ (x y : List ℕ). x ++ (c ++ y)) (ap (take 16) e ∙ take-at b (drop 16 S) 16 hb) (drop-of-length-le T {i = 32} (omega arith))
+    ∙ ap (λ (x : List ℕ). b ++ x) (append-nil c)
 
--- what the pad makes of a part
-part-made : {S' pad : List ℕ} (K : Key) (O S : List ℕ) → pad ≡ K .ENCIPHER (O xor K .L-*) → S' ≡ S xor pad → S' ≡ lastText K O S
+-- ---- whole blocks
+
+-- one block more: o is its offset, x what the sum takes, s the sum
+after-made : {o x s : List ℕ} (g : List ℕ → List ℕ → List ℕ) (K : Key) (S : List ℕ) (r : Run) → o ≡ r .offset xor K .L (ntz (r .done + 1)) → x ≡ g o S
+    → s ≡ r .sum xor x → _≡_ {A = Run} (record { done = r .done + 1; offset = o; sum = s }) (after g K S r)
+unfolding after nextOffset
+after-made g K S r eo ex es = cc
+
+-- b is what a block becomes, x what the checksum takes of it
+module _ (opens : Bool) (K : Key) where
+  pub one-made : {a o b x s S' : List ℕ} (S : List ℕ) (r : Run) → length S ≡ 16 → a ≡ take 16 (drop 0 S) → o ≡ r .offset xor K .L (ntz (r .done + 1))
+      → b ≡ turned opens K o a → x ≡ summed opens K o a → s ≡ r .sum xor x → S' ≡ take 0 S ++ (b ++ drop 16 S)
+      → One opens K S r S' (record { done = r .done + 1; offset = o; sum = s })
+  unfolding nextOffset
+  one-made {b = b} S r h ea eo eb ex es et =
+      let whole = ea ∙ take-all 16 S (omega arith) in
+      record {
+        run = after-made (summed opens K) K S r eo (ex ∙ ap (summed opens K _) whole) es;
+        text = et ∙ stored-one S b h ∙ eb ∙ ap₂ (turned opens K) eo whole;
+      }
+
+  pub two-made : {a₁ a₂ o₁ o₂ b₁ b₂ x₁ x₂ s₁ s₂ T S' : List ℕ} (S : List ℕ) (r : Run) → length S ≡ 32 → length b₁ ≡ 16
+      → a₁ ≡ take 16 (drop 0 S) → a₂ ≡ take 16 (drop 16 S)
+      → o₁ ≡ r .offset xor K .L (ntz (r .done + 1)) → o₂ ≡ o₁ xor K .L (ntz (r .done + 1 + 1))
+      → b₁ ≡ turned opens K o₁ a₁ → b₂ ≡ turned opens K o₂ a₂ → x₁ ≡ summed opens K o₁ a₁ → x₂ ≡ summed opens K o₂ a₂
+      → s₁ ≡ r .sum xor x₁ → s₂ ≡ s₁ xor x₂
+      → T ≡ take 0 S ++ (b₁ ++ drop 16 S) → S' ≡ take 16 T ++ (b₂ ++ drop 32 T)
+      → Two opens K S r S' (record { done = r .done + 1 + 1; offset = o₂; sum = s₂ })
+  unfolding blockAt nextOffset
+  two-made {o₁ = o₁} {b₁ = b₁} {b₂} {s₁ = s₁} {T = T} S r h h₁ ea₁ ea₂ eo₁ eo₂ eb₁ eb₂ ex₁ ex₂ es₁ es₂ eT et =
+      let r₁ : Run = record { done = r .done + 1; offset = o₁; sum = s₁ } in
+      let e₁ : r₁ ≡ after (summed opens K) K (blockAt S 0) r = after-made (summed opens K) K (blockAt S 0) r eo₁ (ex₁ ∙ ap (summed opens K o₁) ea₁) es₁ in
+      let first : b₁ ≡ turned opens K (nextOffset K r) (blockAt S 0) = eb₁ ∙ ap₂ (turned opens K) eo₁ ea₁ in
+      let second : b₂ ≡ turned opens K (nextOffset K r₁) (blockAt S 1) = eb₂ ∙ ap₂ (turned opens K) eo₂ ea₂ in
+      record {
+        run =
+            after-made (summed opens K) K (blockAt S 1) r₁ eo₂ (ex₂ ∙ ap (summed opens K _) ea₂) es₂
+            ∙ ap (after (summed opens K) K (blockAt S 1)) e₁;
+        text =
+            et
+            ∙ stored-two S T b₁ b₂ h h₁ eT
+            ∙ ap₂ (λ (x y : List ℕ). x ++ y) first (second ∙ ap (λ (z : Run). turned opens K (nextOffset K z) (blockAt S 1)) e₁);
+        half = ap length (sym first) ∙ h₁;
+      }
+
+-- by the way that a text goes
+pub one-either : {opens way : Bool} {K : Key} {S S' : List ℕ} {r r' : Run} → opens ≡ way → One way K S r S' r' → One opens K S r S' r'
+one-either {K = K} {S} {S'} {r} {r'} e = subst⁻¹ (λ (b : Bool). One b K S r S' r') e
+
+pub two-either : {opens way : Bool} {K : Key} {S S' : List ℕ} {r r' : Run} → opens ≡ way → Two way K S r S' r' → Two opens K S r S' r'
+two-either {K = K} {S} {S'} {r} {r'} e = subst⁻¹ (λ (b : Bool). Two b K S r S' r') e
+
+-- a block of associated data
+pub hash-made : {o t x s : List ℕ} (K : Key) (b : List ℕ) (r : Run) → o ≡ r .offset xor K .L (ntz (r .done + 1)) → t ≡ b xor o → x ≡ K .ENCIPHER t
+    → s ≡ r .sum xor x → _≡_ {A = Run} (record { done = r .done + 1; offset = o; sum = s }) (after (hashBlock K) K b r)
+unfolding hashBlock
+hash-made K b r eo et ex es = after-made (hashBlock K) K b r eo (ex ∙ ap (K .ENCIPHER) et) es
+
+-- ---- the last part, of plaintext P: o is its offset, d the padded part, m the pad
+
+pub last-made : {o d s m S' : List ℕ} (K : Key) (P S : List ℕ) (r : Run) → o ≡ r .offset xor K .L-* → d ≡ padded P → s ≡ r .sum xor d
+    → m ≡ K .ENCIPHER o → S' ≡ S xor m → Last K P S r S' (record { done = r .done; offset = o; sum = s })
 unfolding lastText
-part-made {pad = pad} K O S ep et = et ∙ sym (xor-take S pad) ∙ ap (λ (x : List ℕ). S xor take (length S) x) ep
+last-made {m = m} K P S r eo ed es em et = record {
+  run = cc;
+  text = et ∙ sym (xor-take S m) ∙ ap (λ (x : List ℕ). S xor take (length S) x) (em ∙ ap (K .ENCIPHER) eo);
+}
 
--- the last part, whose plaintext is S to seal and S' to open
-pub last-sealed : {S S' d pad : List ℕ} {r r' : Run} (K : Key) → r' .offset ≡ r .offset xor K .L-* → d ≡ padded S → r' .sum ≡ r .sum xor d
-    → pad ≡ K .ENCIPHER (r' .offset) → S' ≡ S xor pad → Last plainBlock K S r S' r'
-last-sealed {S} {r = r} K eo ed es ep et = record { offset = eo; sum = cc; text = part-made K (r .offset) S (cc) et }
-
-pub last-opened : {S S' d pad : List ℕ} {r r' : Run} (K : Key) → r' .offset ≡ r .offset xor K .L-* → d ≡ padded S' → r' .sum ≡ r .sum xor d
-    → pad ≡ K .ENCIPHER (r' .offset) → S' ≡ S xor pad → Last (lastText K) K S r S' r'
-last-opened {S} {r = r} K eo ed es ep et =
-    let e = part-made K (r .offset) S (cc) et in
-    record { offset = eo; sum = cc; text = e }
+-- and where it is opened, P is what the part becomes
+pub last-opened : {o d s m S' : List ℕ} (K : Key) (S : List ℕ) (r : Run) → o ≡ r .offset xor K .L-* → d ≡ padded S' → s ≡ r .sum xor d
+    → m ≡ K .ENCIPHER o → S' ≡ S xor m → Last K (lastText K (r .offset) S) S r S' (record { done = r .done; offset = o; sum = s })
+last-opened K S r eo ed es em et =
+    let sealed = last-made K _ S r eo ed es em et in
+    last-made K (lastText K (r .offset) S) S r eo (ed ∙ ap padded (sealed .text)) es em et
 
 -- a last part of the associated data
 pub last-hash-some : (K : Key) (O s S : List ℕ) → 0 < length S → lastHash K O s S ≡ s xor K .ENCIPHER (padded S xor (O xor K .L-*))

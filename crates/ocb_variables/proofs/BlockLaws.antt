@@ -4,7 +4,7 @@ use mathlib.Core.List.{List}
 use Prim.Native.Nat.{ℕ, suc}
 use lib.Dec.{lit<}
 use Rattle.standards.specs.Strings.{toBytes, Block}
-use Rattle.standards.specs.Rfc7253.{Key, double, doubled}
+use Rattle.standards.specs.Rfc7253.{double, doubled}
 use Rattle.standards.specs.InBytes.{cutOf, initialOffset}
 use Rattle.block.proofs.NumberLaws.{digits-length, digits-below}
 
@@ -23,6 +23,6 @@ cut-block : (stretch : List ℕ) (bottom : ℕ) → Block (cutOf stretch bottom)
 unfolding cutOf
 cut-block stretch bottom = bytes-block _
 
-pub initial-offset-block : (K : Key) (t : ℕ) (N : List ℕ) → Block (initialOffset K t N)
+pub initial-offset-block : (E : List ℕ → List ℕ) (t : ℕ) (N : List ℕ) → Block (initialOffset E t N)
 unfolding initialOffset
-initial-offset-block K t N = cut-block _ _
+initial-offset-block E t N = cut-block _ _

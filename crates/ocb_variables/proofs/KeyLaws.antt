@@ -4,6 +4,7 @@ use mathlib.Core.Path.{_≡_, refl, ap, _∙_}
 use mathlib.Core.List.{List}
 use Prim.Native.Nat.{ℕ, _≤_}
 use lib.ListN.{length}
+use Rattle.sizes.specs.Sizes.{aesRounds, places, tableBytes}
 use Rattle.standards.specs.Strings.{zeros, Bytes, Block}
 use Rattle.standards.specs.Rfc7253.{keyed, double}
 use Rattle.block.proofs.StringLaws.{block-zeros}
@@ -16,39 +17,39 @@ use Rattle.ocb_variables.specs.State.{tableOf, stateOf}
 use Rattle.ocb_variables.proofs.BlockLaws.{double-block}
 use Rattle.ocb_variables.proofs.TableLaws.{table-length, table-bytes, table-at}
 
-pub state-agrees : (rk : List ℕ) (m : ℕ) → Agrees m (held (stateOf rk m)) (keyed (enc 10 rk) (dec 10 rk))
+pub state-agrees : (rk : List ℕ) (m : ℕ) → Agrees m (held (stateOf rk m)) (keyed (enc aesRounds rk) (dec aesRounds rk))
 unfolding stateOf
 state-agrees rk m = record {
   enciphers = refl;
   deciphers = refl;
   star = refl;
   dollar = refl;
-  table = table-at (double (enc 10 rk (zeros 16))) m;
+  table = table-at (double (enc aesRounds rk (zeros 16))) m;
 }
 
--- what the state holds are blocks, and a table of 26 places of bytes
+-- what the state holds are blocks, and a table of bytes with all its places
 pub record Sized (s : State) : Type 0 where
-  pub star : Block (s .star)
-  pub dollar : Block (s .dollar)
-  pub table : length (s .table) ≡ 416
+  pub star : Block (s .values .star)
+  pub dollar : Block (s .values .dollar)
+  pub table : length (s .table) ≡ tableBytes
   pub bytes : Bytes (s .table)
 
-pub state-sized : (rk : List ℕ) (m : ℕ) → Bytes rk → m ≤ 26 → Sized (stateOf rk m)
+pub state-sized : (rk : List ℕ) (m : ℕ) → Bytes rk → m ≤ places → Sized (stateOf rk m)
 unfolding stateOf
 state-sized rk m hrk h =
-    let star : List ℕ = enc 10 rk (zeros 16) in
+    let star : List ℕ = enc aesRounds rk (zeros 16) in
     record {
-      star = enc-block 10 rk (zeros 16) hrk block-zeros;
+      star = enc-block aesRounds rk (zeros 16) hrk block-zeros;
       dollar = double-block star;
       table = table-length (double star) m h;
       bytes = table-bytes (double star) m;
     }
 
 -- the state from its fields, as set-up makes them one after the other
-pub state-made : {star dollar table : List ℕ} (rk : List ℕ) (m : ℕ) → star ≡ enc 10 rk (zeros 16) → dollar ≡ double star → table ≡ tableOf dollar m
-    → _≡_ {A = State} (record { «round_keys» = rk; star = star; dollar = dollar; m = m; table = table }) (stateOf rk m)
+pub state-made : {star dollar table : List ℕ} (rk : List ℕ) (m : ℕ) → star ≡ enc aesRounds rk (zeros 16) → dollar ≡ double star → table ≡ tableOf dollar m
+    → _≡_ {A = State} (record { «round_keys» = rk; table = table; values = record { m = m; star = star; dollar = dollar } }) (stateOf rk m)
 unfolding stateOf
 state-made {star} {dollar} {table} rk m es ed et =
-    let ed' : dollar ≡ double (enc 10 rk (zeros 16)) = ed ∙ ap double es in
-    let et' : table ≡ tableOf (double (enc 10 rk (zeros 16))) m = et ∙ ap (λ (S : List ℕ). tableOf S m) ed' in
+    let ed' : dollar ≡ double (enc aesRounds rk (zeros 16)) = ed ∙ ap double es in
+    let et' : table ≡ tableOf (double (enc aesRounds rk (zeros 16))) m = et ∙ ap (λ (S : List ℕ). tableOf S m) ed' in
     cc

@@ -13,9 +13,9 @@ use lib.Seq.{getD-take, getD-drop, length-take-le, take-length, take-all, take-a
 use Rattle.standards.specs.Strings.{_⊕_, _xor_, zeros}
 use Rattle.standards.specs.InBytes.{nonceFront, nonceBlock, bottomOf, topOf, stretchOf, cutOf, initialOffset}
 use Rattle.block.proofs.StringLaws.{xor-length, xor-at}
+use Rattle.sizes.specs.Sizes.{aesRounds}
 use Rattle.aes.specs.Cipher.{enc}
 use Rattle.ocb_variables.specs.declared.NonceVariables.{NonceVariables}
-use Rattle.ocb_variables.specs.Held.{stateKey}
 use Rattle.ocb_variables.specs.Nonce.{variablesOf}
 
 -- ---- the nonce block
@@ -39,21 +39,20 @@ module _ (t : ℕ) (N : List ℕ) (h : length N ≤ 15) where
       let l : 15 - length N ≤ 15 = omega arith in
       ap (λ (k : ℕ). take k (ground t)) e ∙ ap (λ (S : List ℕ). 8 * t % 128 * 2 ∷ S) (take-zeros (15 - length N) 15 l)
 
-  -- the whole nonce is pasted
-  pasted : paste (ground t) (16 - length N) N (length N) ≡ head t (15 - length N) ++ N
-  pasted =
-      ap₂ (λ (S U : List ℕ). S ++ U ++ drop (16 - length N + length N) (ground t)) head-left (take-length N)
-      ∙ ap (λ (S : List ℕ). head t (15 - length N) ++ N ++ S) (drop-of-length-le (ground t) {i = 16 - length N + length N} (omega arith))
-      ∙ append-nil (head t (15 - length N) ++ N)
+  -- the nonce is laid over the ground's end
+  laid : take (16 - length N) (ground t) ++ (N ++ drop (16 - length N + length N) (ground t)) ≡ head t (15 - length N) ++ N
+  laid =
+      ap₂ (λ (S U : List ℕ). S ++ (N ++ U)) head-left (drop-of-length-le (ground t) {i = 16 - length N + length N} (omega arith))
+      ∙ ap (λ (S : List ℕ). head t (15 - length N) ++ S) (append-nil N)
 
   -- and the byte before it is marked
-  pub nonce-made : (r : List ℕ) → r ≡ paste (ground t) (16 - length N) N (length N)
+  pub nonce-made : (r : List ℕ) → r ≡ take (16 - length N) (ground t) ++ (N ++ drop (16 - length N + length N) (ground t))
       → set r (15 - length N) (bitOr (getD r (15 - length N) 0) 1) ≡ nonceBlock t N
   unfolding nonceBlock nonceFront
   nonce-made r e =
       let n : ℕ = 15 - length N in
       let l : n < length (head t n) = omega (arith, length-replicate {A = ℕ} n 0) in
-      ap (λ (S : List ℕ). set S n (bitOr (getD S n 0) 1)) (e ∙ pasted)
+      ap (λ (S : List ℕ). set S n (bitOr (getD S n 0) 1)) (e ∙ laid)
       ∙ ap (λ (x : ℕ). set (head t n ++ N) n (bitOr x 1)) (List·getD-append (head t n) N 0 n l)
       ∙ set-append-left (head t n) N n (bitOr (getD (head t n) n 0) 1) l
 
@@ -108,20 +107,20 @@ module _ (k : List ℕ) (hk : length k ≡ 16) where
 -- ---- all of them, as the code makes them one after the other
 
 pub variables-made : {b k s : List ℕ} (rk : List ℕ) (t : ℕ) (N : List ℕ) → b ≡ nonceBlock t N → getD b 15 0 < 256
-    → k ≡ enc 10 rk (set b 15 (bitAnd (getD b 15 0) 192)) → s ≡ stretchOf k
+    → k ≡ enc aesRounds rk (set b 15 (bitAnd (getD b 15 0) 192)) → s ≡ stretchOf k
     → _≡_ {A = NonceVariables} (record { bottom = bitAnd (getD b 15 0) 63; stretch = s }) (variablesOf rk t N)
 unfolding variablesOf
 variables-made {b} {k} {s} rk t N eb hb ek es =
     let bottom : bitAnd (getD b 15 0) 63 ≡ bottomOf (nonceBlock t N) = bottom-mask b ∙ ap bottomOf eb in
-    let stretch : s ≡ stretchOf (enc 10 rk (topOf (nonceBlock t N))) =
-    es ∙ ap stretchOf (ek ∙ ap (enc 10 rk) (top-mask b hb ∙ ap topOf eb)) in
+    let stretch : s ≡ stretchOf (enc aesRounds rk (topOf (nonceBlock t N))) =
+    es ∙ ap stretchOf (ek ∙ ap (enc aesRounds rk) (top-mask b hb ∙ ap topOf eb)) in
     cc
 
 pub bottom-below : {v : NonceVariables} (rk : List ℕ) (t : ℕ) (N : List ℕ) → v ≡ variablesOf rk t N → v .bottom < 64
 unfolding variablesOf bottomOf
 bottom-below {v} rk t N e = subst (λ (w : NonceVariables). w .bottom < 64) (sym e) (mod-lt (getD (nonceBlock t N) 15 0) (lit< tt))
 
-pub offset-made : {v : NonceVariables} {r : List ℕ} (rk : List ℕ) (t : ℕ) (N star dollar table : List ℕ)
-    → v ≡ variablesOf rk t N → r ≡ cutOf (v .stretch) (v .bottom) → r ≡ initialOffset (stateKey rk star dollar table) t N
+pub offset-made : {v : NonceVariables} {r : List ℕ} (rk : List ℕ) (t : ℕ) (N : List ℕ)
+    → v ≡ variablesOf rk t N → r ≡ cutOf (v .stretch) (v .bottom) → r ≡ initialOffset (enc aesRounds rk) t N
 unfolding variablesOf initialOffset
-offset-made {v} rk t N star dollar table ev er = er ∙ ap (λ (w : NonceVariables). cutOf (w .stretch) (w .bottom)) ev
+offset-made {v} rk t N ev er = er ∙ ap (λ (w : NonceVariables). cutOf (w .stretch) (w .bottom)) ev

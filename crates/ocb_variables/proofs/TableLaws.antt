@@ -4,14 +4,15 @@ use mathlib.Core.Path.{_≡_, refl, sym, ap, ap₂, _∙_}
 use mathlib.Core.List.{List, _++_, append-assoc}
 use Prim.Native.Nat.{ℕ, zero, suc, _+_, _*_, _-_, _<_, _≤_}
 use native.Mathlib.Decide.{decLt}
-use native.Mathlib.Nat.{not-suc-le-zero, sub-zero, zero-sub, suc-sub-suc}
+use native.Mathlib.Nat.{not-suc-le-zero}
 use native.Mathlib.Numerals.{add-one}
 use native.Mathlib.Omega.{arith}
 use lib.ListN.{length, take, drop, length-append, length-replicate}
 use lib.Seq.{take-at, drop-at, drop-drop}
+use Rattle.sizes.specs.Sizes.{places, tableBytes}
 use Rattle.standards.specs.Strings.{zeros, Bytes}
 use Rattle.standards.specs.Rfc7253.{double, doubled, blockAt}
-use Rattle.block.proofs.StringLaws.{bytes-none, bytes-append, bytes-zeros}
+use Rattle.block.proofs.StringLaws.{drop-zeros, bytes-none, bytes-append, bytes-zeros}
 use Rattle.ocb_variables.specs.State.{rows, tableOf}
 use Rattle.ocb_variables.proofs.BlockLaws.{doubled-block}
 
@@ -28,13 +29,13 @@ unfolding rows
 rows-bytes d zero = bytes-none
 rows-bytes d (suc m) = bytes-append (rows d m) (doubled (suc m) d) (rows-bytes d m) (doubled-block m d .bytes)
 
-pub table-length : (d : List ℕ) (m : ℕ) → m ≤ 26 → length (tableOf d m) ≡ 416
+pub table-length : (d : List ℕ) (m : ℕ) → m ≤ places → length (tableOf d m) ≡ tableBytes
 unfolding tableOf
 table-length d m h = simp (length-append, length-replicate, rows-length d m) (omega arith)
 
 pub table-bytes : (d : List ℕ) (m : ℕ) → Bytes (tableOf d m)
 unfolding tableOf
-table-bytes d m = bytes-append (rows d m) (zeros (416 - m * 16)) (rows-bytes d m) (bytes-zeros (416 - m * 16))
+table-bytes d m = bytes-append (rows d m) (zeros (tableBytes - m * 16)) (rows-bytes d m) (bytes-zeros (tableBytes - m * 16))
 
 -- ---- row i, whatever stands behind the rows
 
@@ -59,7 +60,7 @@ row-at d (suc m) i behind h =
 
 pub table-at : (d : List ℕ) (m i : ℕ) → i < m → blockAt (tableOf d m) i ≡ doubled (suc i) d
 unfolding tableOf
-table-at d m i h = row-at d m i (zeros (416 - m * 16)) h
+table-at d m i h = row-at d m i (zeros (tableBytes - m * 16)) h
 
 -- ---- the loop that fills the table
 
@@ -99,11 +100,6 @@ filled-more d before t l t' l' i F el et =
       last = made ∙ ap (λ (k : ℕ). doubled k d) (sym (add-one i));
     }
 
-drop-zeros : (n k : ℕ) → drop n (zeros k) ≡ zeros (k - n)
-drop-zeros zero k = ap zeros (sym (sub-zero k))
-drop-zeros (suc n) zero = ap zeros (sym (zero-sub (suc n)))
-drop-zeros (suc n) (suc k) = drop-zeros n k ∙ ap zeros (sym (suc-sub-suc k n))
-
-pub filled-all : (d t l : List ℕ) (m : ℕ) → Filled d (zeros 416) t l m → t ≡ tableOf d m
+pub filled-all : (d t l : List ℕ) (m : ℕ) → Filled d (zeros tableBytes) t l m → t ≡ tableOf d m
 unfolding tableOf
-filled-all d t l m F = F .table ∙ ap (λ (S : List ℕ). rows d m ++ S) (drop-zeros (m * 16) 416)
+filled-all d t l m F = F .table ∙ ap (λ (S : List ℕ). rows d m ++ S) (drop-zeros (m * 16) tableBytes)

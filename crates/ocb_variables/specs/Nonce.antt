@@ -1,22 +1,22 @@
 -- What depends on the nonce (RFC 7253, section 4.2), under the cipher of round keys rk. t is the tag's length in bytes.
 use mathlib.Core.List.{List}
-use Prim.Native.Nat.{ℕ, _+_, _-_, _*_, _/_, _%_, _^_, _≤_}
+use Prim.Native.Nat.{ℕ, _+_, _-_, _*_, _/_, _%_, _^_}
+use Rattle.sizes.specs.Sizes.{aesRounds}
 use Rattle.standards.specs.InBytes.{nonceBlock, bottomOf, topOf, stretchOf}
 use Rattle.aes.specs.Cipher.{enc}
+use Rattle.ocb_numbers.specs.Numbers.{NonceSize, TagSize}
 use Rattle.ocb_variables.specs.declared.NonceVariables.{NonceVariables}
 
 -- the lengths of nonce and tag that are admitted
 pub record Admitted (n t : ℕ) : Type 0 where
-  pub nonce-least : 6 ≤ n
-  pub nonce-most : n ≤ 15
-  pub tag-least : 1 ≤ t
-  pub tag-most : t ≤ 16
+  pub nonce-size : NonceSize n
+  pub tag-size : TagSize t
 
 -- bottom, and the Stretch of Ktop
 unfoldable pub variablesOf : List ℕ → ℕ → List ℕ → NonceVariables
 variablesOf rk t N = record {
   bottom = bottomOf (nonceBlock t N);
-  stretch = stretchOf (enc 10 rk (topOf (nonceBlock t N)));
+  stretch = stretchOf (enc aesRounds rk (topOf (nonceBlock t N)));
 }
 
 -- the 64 bits behind the first `bottom` of two words of 64 bits: the first offset is cut a word at a time

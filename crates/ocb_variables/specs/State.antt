@@ -1,6 +1,7 @@
 -- The state that a key is made into (RFC 7253, section 4.1).
 use mathlib.Core.List.{List, [], _++_}
 use Prim.Native.Nat.{ℕ, zero, suc, _*_, _-_}
+use Rattle.sizes.specs.Sizes.{aesRounds, tableBytes}
 use Rattle.standards.specs.Strings.{zeros}
 use Rattle.standards.specs.Rfc7253.{double, doubled}
 use Rattle.aes.specs.Cipher.{enc}
@@ -11,12 +12,12 @@ unfoldable pub rows : List ℕ → ℕ → List ℕ
 rows dollar zero = []
 rows dollar (suc i) = rows dollar i ++ doubled (suc i) dollar
 
--- m rows, and zeros up to the 26 places of sixteen bytes
+-- m rows, and zeros in the other places
 unfoldable pub tableOf : List ℕ → ℕ → List ℕ
-tableOf dollar m = rows dollar m ++ zeros (416 - m * 16)
+tableOf dollar m = rows dollar m ++ zeros (tableBytes - m * 16)
 
 -- of round keys rk and m places: L_* is the zero block enciphered, L_$ its double
 unfoldable pub stateOf : List ℕ → ℕ → State
 stateOf rk m =
-    let star : List ℕ = enc 10 rk (zeros 16) in
-    record { «round_keys» = rk; star = star; dollar = double star; m = m; table = tableOf (double star) m }
+    let star : List ℕ = enc aesRounds rk (zeros 16) in
+    record { «round_keys» = rk; table = tableOf (double star) m; values = record { m = m; star = star; dollar = double star } }

@@ -1,32 +1,41 @@
 // What depends on the key and what depends on the nonce (RFC 7253, sections 4.1 and 4.2): the L values, the nonce block, Stretch and
-// the first offset. The S-box and the round keys are lent down, not copied. t is a tag's length in bytes.
+// the first offset. The cipher's tables and the round keys are lent down, not copied. t is a tag's length in bytes.
+use aes::EncipherTables;
+use sizes::Block;
+use sizes::RoundKeys;
+use sizes::TABLE_BYTES;
+use sizes::Table;
 ghost use mathlib.Core.Path.{_≡_};
-ghost use mathlib.Core.List.{List};
-ghost use Prim.Native.Nat.{ℕ, _≤_, _<_};
+ghost use Prim.Native.Nat.{_≤_, _<_};
 ghost use lib.ListN.{length};
+ghost use Rattle.sizes.specs.Sizes.{aesRounds, places};
 ghost use Rattle.standards.specs.InBytes.{nonceBlock, stretchOf, cutOf, initialOffset};
-ghost use Rattle.field.specs.Tables.{sboxTable};
+ghost use Rattle.aes.specs.Cipher.{enc, EnciphersWith};
 ghost use Rattle.ocb_variables.specs.State.{tableOf, stateOf};
-ghost use Rattle.ocb_variables.specs.Held.{stateKey};
 ghost use Rattle.ocb_variables.specs.Nonce.{Admitted, variablesOf, bitsFrom};
 
 // ---- Key-dependent variables
 
-// What a key is made into. The table has places for L_0 to L_25, of which the first m are filled and the others zero.
-pub struct State {
-    pub round_keys: [u8; 176],
-    pub star: [u8; 16],
-    pub dollar: [u8; 16],
+// What goes by value wherever round keys and table are lent: L_*, L_$, and how many places of the table are filled.
+pub struct KeyValues {
+    pub star: Block,
+    pub dollar: Block,
     pub m: usize,
-    pub table: [u8; 416],
+}
+
+// What a key is made into. Block i of the table is L_i for the first m places; the others are zero.
+pub struct State {
+    pub round_keys: RoundKeys,
+    pub values: KeyValues,
+    pub table: Table,
 }
 
 // The table of L_0 to L_(m-1): each L is the double of the one before, and L_0 that of L_$.
-fn l_table(dollar: [u8; 16], m: usize) -> [u8; 416]
-    requires { ⌜ m ≤ 26 ⌝ }
+fn l_table(dollar: Block, m: usize) -> Table
+    requires { ⌜ m ≤ places ⌝ }
     ensures { λ r. ⌜ r ≡ tableOf dollar m ⌝ }
 {
-    let mut table = [0u8; 416];
+    let mut table = [0u8; TABLE_BYTES];
     let mut l = dollar;
     let mut i = 0;
     while i < m {
@@ -39,19 +48,22 @@ fn l_table(dollar: [u8; 16], m: usize) -> [u8; 416]
 }
 
 // The state of these round keys. L_* is the zero block enciphered, L_$ its double.
-pub fn key_dependent_variables(sbox: &[u8; 256], rk: [u8; 176], m: usize) -> State
-    requires { ⌜ (now sbox ≡ sboxTable) × (m ≤ 26) ⌝ }
+pub fn key_dependent_variables(tables: &EncipherTables, rk: RoundKeys, m: usize) -> State
+    requires { ⌜ (EnciphersWith (now tables)) × (m ≤ places) ⌝ }
     ensures { λ r. ⌜ r ≡ stateOf rk m ⌝ }
 {
     let zero = [0u8; 16];
-    let star = aes::encipher_with(sbox, &rk, zero);
+    let star = aes::encipher_with(tables, &rk, zero);
     let dollar = block::double(star);
     let table = l_table(dollar, m);
-    State {
-        round_keys: rk,
+    let values = KeyValues {
         star: star,
         dollar: dollar,
         m: m,
+    };
+    State {
+        round_keys: rk,
+        values: values,
         table: table,
     }
 }
@@ -59,26 +71,21 @@ pub fn key_dependent_variables(sbox: &[u8; 256], rk: [u8; 176], m: usize) -> Sta
 // ---- Nonce-dependent variables
 
 // Seven bits of the tag's length in bits mod 128, zeros, one 1 bit, and the nonce.
-fn nonce_block(nonce: &[u8], t: usize) -> [u8; 16]
+fn nonce_block(nonce: &[u8], t: usize) -> Block
     requires { ⌜ Admitted (length (now nonce)) t ⌝ }
     ensures { λ r. ⌜ r ≡ nonceBlock t (now (nonce .entry)) ⌝ }
 {
     let len = nonce.len();
-    let start = 16 - len;
     let mut out = [0u8; 16];
     out[0] = (8 * t % 128 * 2) as u8;
-    let mut i = 0;
-    while i < len {
-        out[start + i] = nonce[i];
-        i += 1;
-    }
+    block::copy_at(&mut out, 16 - len, nonce);
     let mark = 15 - len;
     out[mark] = out[mark] | 1;
     out
 }
 
 // Ktop, then each of its bytes 0 to 7 xored with its right neighbour, as both stand in Ktop.
-fn stretch_of(ktop: [u8; 16]) -> [u8; 24]
+fn stretch_of(ktop: Block) -> [u8; 24]
     ensures { λ r. ⌜ r ≡ stretchOf ktop ⌝ }
 {
     let mut stretch = [0u8; 24];
@@ -98,19 +105,19 @@ pub struct NonceVariables {
 
 // Bottom is the low six bits of the nonce block; Ktop is the block with those bits cleared, enciphered.
 pub fn nonce_dependent_variables(
-    sbox: &[u8; 256],
-    rk: &[u8; 176],
+    tables: &EncipherTables,
+    rk: &RoundKeys,
     nonce: &[u8],
     t: usize,
 ) -> NonceVariables
-    requires { ⌜ (now sbox ≡ sboxTable) × Admitted (length (now nonce)) t ⌝ }
+    requires { ⌜ (EnciphersWith (now tables)) × Admitted (length (now nonce)) t ⌝ }
     ensures { λ r. ⌜ r ≡ variablesOf (now (rk .entry)) t (now (nonce .entry)) ⌝ }
 {
     let mut top = nonce_block(nonce, t);
     let last = top[15];
     let bottom = (last & 63) as usize;
     top[15] = last & 192;
-    let ktop = aes::encipher_with(sbox, rk, top);
+    let ktop = aes::encipher_with(tables, rk, top);
     let stretch = stretch_of(ktop);
     NonceVariables {
         bottom: bottom,
@@ -132,7 +139,7 @@ fn bits_from(hi: u64, lo: u64, bottom: usize) -> u64
 }
 
 // The 128 bits behind the first `bottom` of Stretch.
-fn cut(stretch: [u8; 24], bottom: usize) -> [u8; 16]
+fn cut(stretch: [u8; 24], bottom: usize) -> Block
     requires { ⌜ bottom < 64 ⌝ }
     ensures { λ r. ⌜ r ≡ cutOf stretch bottom ⌝ }
 {
@@ -145,12 +152,12 @@ fn cut(stretch: [u8; 24], bottom: usize) -> [u8; 16]
     offset
 }
 
-// Offset_0 under whatever key the round keys are a part of: neither L values nor a table come into it.
-pub fn initial_offset(sbox: &[u8; 256], rk: &[u8; 176], nonce: &[u8], t: usize) -> [u8; 16]
-    requires { ⌜ (now sbox ≡ sboxTable) × Admitted (length (now nonce)) t ⌝ }
-    ensures { λ r. ⌜ ((star dollar table : List ℕ) → r ≡ initialOffset (stateKey (now (rk .entry)) star dollar table) t (now (nonce .entry))) ⌝ }
+// Offset_0. Of a key it takes the round keys alone.
+pub fn initial_offset(tables: &EncipherTables, rk: &RoundKeys, nonce: &[u8], t: usize) -> Block
+    requires { ⌜ (EnciphersWith (now tables)) × Admitted (length (now nonce)) t ⌝ }
+    ensures { λ r. ⌜ r ≡ initialOffset (enc aesRounds (now (rk .entry))) t (now (nonce .entry)) ⌝ }
 {
-    let v = nonce_dependent_variables(sbox, rk, nonce, t);
+    let v = nonce_dependent_variables(tables, rk, nonce, t);
     let bottom = v.bottom;
     let stretch = v.stretch;
     cut(stretch, bottom)

@@ -1,20 +1,19 @@
--- The end of a walk: with no part left, and with a last part, of which q makes the plaintext. Of no bytes the definitions make nothing,
--- so that the two ways out meet one definition.
--- Assumes nothing.
-use mathlib.Core.Path.{_≡_, refl, ap, _∙_, subst}
+-- The two ends of a text: whole blocks alone, or a last part behind them. Assumes nothing.
+use mathlib.Core.Path.{_≡_, refl, sym, ap, ap₂, _∙_}
+use mathlib.Core.Bool.{Bool}
 use mathlib.Core.List.{List, [], _∷_, _++_, append-nil}
 use Prim.Native.Nat.{ℕ, _*_, _-_, _/_, _<_, _≤_}
 use native.Mathlib.Nat.{not-suc-le-zero}
 use native.Mathlib.Omega.{arith}
-use lib.ListN.{length, take, drop, drop-of-length-le}
-use lib.Seq.{take-all}
+use lib.ListN.{length, take, drop, length-append, drop-of-length-le}
+use lib.Seq.{take-at, drop-at, take-all}
 use Rattle.standards.specs.Strings.{_xor_}
-use Rattle.standards.specs.Rfc7253.{Key, wholes, rest, padded, Offset, Blocks, Sum, lastOffset, lastText, lastSum, endOffset}
+use Rattle.standards.specs.Rfc7253.{Key, wholes, rest, padded, Offset, Blocks, Sum, lastOffset, lastText, lastSum, text, endOffset}
 use Rattle.ocb_laws.proofs.Sizes.{last-length, rest-length}
 use Rattle.ocb_steps.specs.declared.Run.{Run}
-use Rattle.ocb_steps.specs.Steps.{Last}
-use Rattle.ocb_walk.specs.Walked.{Walked}
-use Rattle.ocb_walk.proofs.WalkLaws.{written, Done, done-drop, done-take}
+use Rattle.ocb_steps.specs.Steps.{turned, summed, Last}
+use Rattle.ocb_walk.specs.Walked.{runAt, Walked, Ended}
+use Rattle.ocb_walk.proofs.WalkLaws.{written}
 
 last-offset-none : (K : Key) (O S : List ℕ) → length S ≡ 0 → lastOffset K O S ≡ O
 unfolding lastOffset
@@ -40,42 +39,58 @@ no-places : (S : List ℕ) → length S ≡ 0 → S ≡ []
 no-places [] h = refl
 no-places (x ∷ S) h = absurd (omega arith)
 
-module _ (f g q : List ℕ → List ℕ → List ℕ) (K : Key) (O S : List ℕ) (kept : (X Y : List ℕ) → length (q X Y) ≡ length Y) where
-  -- what the walk leaves
-  abbrev Ended : List ℕ → Run → Type 0
-  Ended T r =
-      Walked (Blocks f K O S (wholes S) ++ lastText K (Offset K O (wholes S)) (rest S)) (endOffset K O S)
-      (lastSum (Sum g K O S (wholes S)) (q (Offset K O (wholes S)) (rest S))) T r
+-- q makes the plaintext of a last part of the offset before it and its bytes, and keeps its length
+module _ (opens : Bool) (K : Key) (O S : List ℕ) (q : Key → List ℕ → List ℕ → List ℕ) (kept : (X Y : List ℕ) → length (q K X Y) ≡ length Y) where
+  -- the offset behind the whole blocks, and the checksum with the last part in it
+  abbrev whole : List ℕ
+  whole = Offset K O (wholes S)
 
-  pub ended-whole : {T : List ℕ} {r : Run} (i : ℕ) → Done f g K O S T r i → i ≡ length S / 16 → length S ≤ length S / 16 * 16 → Ended T r
-  unfolding wholes endOffset rest
-  ended-whole i D ei h =
-      let n : ℕ = length S / 16 in
-      let none : length (rest S) ≡ 0 = omega (arith, rest-length S) in
-      let none' : length (q (Offset K O n) (rest S)) ≡ 0 = kept (Offset K O n) (rest S) ∙ none in
-      let e1 = no-places (rest S) none in
-      let e2 = no-places (lastText K (Offset K O n) (rest S)) (last-length K (Offset K O n) (rest S) ∙ none) in
-      record {
-        text-is = cc;
-        offset-is = cc (last-offset-none K (Offset K O n) (rest S) none);
-        sum-is = cc (last-sum-none (Sum g K O S n) (q (Offset K O n) (rest S)) none');
-      }
+  abbrev checksum : Key → List ℕ → List ℕ → List ℕ
+  checksum K O S = lastSum (Sum (summed opens K) K O S (wholes S)) (q K (Offset K O (wholes S)) (rest S))
 
-  pub ended-part : {r : Run} (T : List ℕ) (i k : ℕ) (y : List ℕ) (r' : Run) → Done f g K O S T r i → i ≡ length S / 16
-      → length S / 16 * 16 < length S → k ≡ length S - length S / 16 * 16
-      → Last q K (take k (drop (length S / 16 * 16) T)) r y r'
-      → Ended (written T (length S / 16) k y) r'
-  unfolding wholes endOffset rest
-  ended-part {r} T i k y r' D ei h ek last =
-      let n : ℕ = length S / 16 in
-      let D' : Done f g K O S T r n = subst (λ (x : ℕ). Done f g K O S T r x) ei D in
-      let long : length (rest S) ≡ length S - n * 16 = rest-length S in
-      let d : drop (n * 16) T ≡ rest S = done-drop f g K O S n D' in
-      let lent : take k (drop (n * 16) T) ≡ rest S = ap (take k) d ∙ take-all k (rest S) (omega arith) in
-      let behind : drop k (drop (n * 16) T) ≡ [] = ap (drop k) d ∙ drop-of-length-le (rest S) {i = k} (omega arith) in
-      let some : 0 < length (q (Offset K O n) (rest S)) = omega (arith, kept (Offset K O n) (rest S)) in
-      record {
-        text-is = cc (done-take f g K O S n D', append-nil y);
-        offset-is = cc (last-offset-some K (Offset K O n) (rest S) (omega arith));
-        sum-is = cc (last-sum-some (Sum g K O S n) (q (Offset K O n) (rest S)) some);
-      }
+  abbrev End : List ℕ → Run → Type 0
+  End T r = Ended (turned opens) checksum K O S T r
+
+  module _ {T : List ℕ} {r : Run} (long : length T ≡ length S) (W : Walked opens K O S T r) where
+    pub ended-whole : length S ≤ length S / 16 * 16 → End T r
+    unfolding runAt text endOffset wholes
+    ended-whole h =
+        let none : length (rest S) ≡ 0 = omega (arith, rest-length S) in
+        let none' : length (q K whole (rest S)) ≡ 0 = kept whole (rest S) ∙ none in
+        let e₁ = no-places (rest S) none in
+        let e₂ = no-places (lastText K whole (rest S)) (last-length K whole (rest S) ∙ none) in
+        record {
+          run-is = W .run ∙ cc (last-offset-none K whole (rest S) none, last-sum-none (Sum (summed opens K) K O S (wholes S)) (q K whole (rest S)) none');
+          text-is = W .text ∙ ap (λ (x : List ℕ). Blocks (turned opens K) K O S (wholes S) ++ x) (e₁ ∙ sym e₂);
+        }
+
+    front-size : length (Blocks (turned opens K) K O S (wholes S)) ≡ wholes S * 16
+    unfolding wholes
+    front-size =
+        let e = ap length (W .text) ∙ length-append (Blocks (turned opens K) K O S (wholes S)) (rest S) in
+        omega (arith, rest-length S)
+
+    -- k places are lent behind the whole blocks, and become y
+    pub ended-part : {P y : List ℕ} {r' : Run} (k : ℕ) → length S / 16 * 16 < length S → k ≡ length S - length S / 16 * 16
+        → P ≡ q K (r .offset) (take k (drop (length S / 16 * 16) T)) → Last K P (take k (drop (length S / 16 * 16) T)) r y r'
+        → End (written T (length S / 16) k y) r'
+    unfolding runAt text endOffset wholes
+    ended-part {P} {y} k h ek ep last =
+        let n : ℕ = length S / 16 in
+        let behind : drop (n * 16) T ≡ rest S = ap (drop (n * 16)) (W .text) ∙ drop-at (Blocks (turned opens K) K O S n) (rest S) (n * 16) front-size in
+        let front : take (n * 16) T ≡ Blocks (turned opens K) K O S n = ap (take (n * 16)) (W .text) ∙ take-at (Blocks (turned opens K) K O S n) (rest S) (n * 16) front-size in
+        let lent : take k (drop (n * 16) T) ≡ rest S = ap (take k) behind ∙ take-all k (rest S) (omega (arith, rest-length S)) in
+        let nothing : drop k (drop (n * 16) T) ≡ [] = ap (drop k) behind ∙ drop-of-length-le (rest S) {i = k} (omega (arith, rest-length S)) in
+        let at : r .offset ≡ whole = ap (λ (z : Run). z .offset) (W .run) in
+        let some : 0 < length (rest S) = omega (arith, rest-length S) in
+        let some' : 0 < length (q K whole (rest S)) = omega (arith, kept whole (rest S)) in
+        let plain : P ≡ q K whole (rest S) = ep ∙ ap₂ (q K) at lent in
+        record {
+          run-is =
+              last .run
+              ∙ ap₂ (λ (z : Run) (p : List ℕ). record { done = z .done; offset = z .offset xor K .L-*; sum = z .sum xor padded p }) (W .run) plain
+              ∙ cc (last-offset-some K whole (rest S) some, last-sum-some (Sum (summed opens K) K O S n) (q K whole (rest S)) some');
+          text-is =
+              ap₂ (λ (x z : List ℕ). x ++ (y ++ z)) front nothing
+              ∙ ap (λ (x : List ℕ). Blocks (turned opens K) K O S n ++ x) (append-nil y ∙ last .text ∙ ap₂ (lastText K) at lent);
+        }

@@ -1,15 +1,16 @@
--- The comparison of tags: the difference of the bytes so far is 0 where they are all the same, and each turn of the loop keeps that.
+-- The comparison of tags: the difference of the bytes so far is 0 where they are all the same, and each turn of the loop keeps that. And a tag written.
 -- Assumes nothing.
 use mathlib.Core.Path.{_≡_, refl, sym, ap, ap₂, _∙_}
 use mathlib.Core.Bool.{Bool, true, false, _&&_}
-use mathlib.Core.List.{List, [], _∷_}
-use Prim.Native.Nat.{ℕ, zero, suc, _+_, _<_}
+use mathlib.Core.List.{List, [], _∷_, _++_, append-nil}
+use Prim.Native.Nat.{ℕ, zero, suc, _+_, _<_, _≤_}
 use native.Mathlib.Nat.{not-suc-le-zero, le-of-suc-le-suc}
 use native.Mathlib.Numerals.{add-one}
 use native.Mathlib.Omega.{arith}
 use lib.Bits.{bitOr, or-add-and, and-le-l, and-le-r}
 use lib.Dec.{eqb}
-use lib.ListN.{length, getD, take}
+use lib.ListN.{length, getD, take, drop, drop-of-length-le}
+use lib.Seq.{take-length, length-take-le}
 use borrow.Author.Tests.{eqb-true, eq-eqb}
 use Rattle.standards.specs.Strings.{_⊕_}
 use Rattle.standards.specs.Rfc7253.{same}
@@ -71,3 +72,12 @@ same-turn S T i d h l e =
     ∙ ap₂ (λ (a b : Bool). a && b) e (xor-zero (getD S i 0) (getD T i 0))
     ∙ sym (same-suc S T i h l)
     ∙ ap (λ (k : ℕ). same (take k S) (take k T)) (sym (add-one i))
+
+-- the front of S copied over the whole of P
+pub front-written : {P' : List ℕ} (P S : List ℕ) → length P ≤ length S
+    → P' ≡ take (length (take (length P) S)) (take (length P) S) ++ drop (length (take (length P) S)) P → P' ≡ take (length P) S
+front-written P S h e =
+    let front : length (take (length P) S) ≡ length P = length-take-le (length P) S h in
+    e
+    ∙ ap₂ (λ (x y : List ℕ). x ++ y) (take-length (take (length P) S)) (drop-of-length-le P {i = length (take (length P) S)} (omega arith))
+    ∙ append-nil (take (length P) S)

@@ -5,7 +5,6 @@ use Prim.Native.Nat.{ℕ, _-_, _*_, _/_, _%_, _^_}
 use lib.Bits.{bitOr}
 use lib.ListN.{length, getD, take, drop, set}
 use Rattle.standards.specs.Strings.{_xor_, zeros, toBytes, num}
-use Rattle.standards.specs.Rfc7253.{Key}
 
 -- twice (8 t mod 128), zeros, and the nonce; the byte before the nonce has its lowest bit set
 unfoldable pub nonceFront : ℕ → ℕ → List ℕ
@@ -31,5 +30,6 @@ stretchOf Ktop = Ktop ++ (take 8 Ktop xor take 8 (drop 1 Ktop))
 unfoldable pub cutOf : List ℕ → ℕ → List ℕ
 cutOf stretch bottom = toBytes 16 (num stretch / 2 ^ (64 - bottom) % 2 ^ 128)
 
-unfoldable pub initialOffset : Key → ℕ → List ℕ → List ℕ
-initialOffset K t N = cutOf (stretchOf (K .ENCIPHER (topOf (nonceBlock t N)))) (bottomOf (nonceBlock t N))
+-- Offset_0, of which the cipher's forward direction E is all that a key gives
+unfoldable pub initialOffset : (List ℕ → List ℕ) → ℕ → List ℕ → List ℕ
+initialOffset E t N = cutOf (stretchOf (E (topOf (nonceBlock t N)))) (bottomOf (nonceBlock t N))

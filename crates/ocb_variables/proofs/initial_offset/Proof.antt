@@ -11,8 +11,8 @@ cut-requires : tie.Need-cut-requires
 cut-requires c κs = bottom-below _ _ _ (c .before .nonce-dependent-variables .ensures)
 
 returns : tie.Need-returns
-returns c star dollar table =
-    offset-made _ _ _ star dollar table (c .before .before .nonce-dependent-variables .ensures) (c .cut .ensures)
+returns c =
+    offset-made _ _ _ (c .before .before .nonce-dependent-variables .ensures) (c .cut .ensures)
 
 pub initial-offset-spec : {M : Type 1} → statement M
 initial-offset-spec = tie.close (tie.spec nonce-dependent-variables-requires cut-requires returns)

@@ -4,19 +4,20 @@ use Prim.Native.Nat.{_-_, _≤_}
 use native.Mathlib.Omega.{arith}
 use borrow.Author.Needs.{needs}
 use lib.ListN.{length}
+use Rattle.sizes.specs.Sizes.{tableBytes}
 use Rattle.standards.specs.Strings.{zeros}
 use Rattle.ocb_variables.proofs.TableLaws.{Filled, filled-none, filled-more, filled-all}
 use Rattle.ocb_variables.proofs.l_table.Statement.{statement}
 use Rattle.ocb_variables.proofs.l_table.Tie as tie
 
 abbrev Inv-loop : tie.InvT-loop
-Inv-loop m table₀ l₀ i₀ table l i = (i ≤ m) × (length table ≡ 416) × Filled l₀ (zeros 416) table l i
+Inv-loop m table₀ l₀ i₀ table l i = (i ≤ m) × (length table ≡ tableBytes) × Filled l₀ (zeros tableBytes) table l i
 
 abbrev μ-loop : tie.MeasureT-loop
 μ-loop m table₀ l₀ i₀ table l i = m - i
 
 loop-holds : tie.Need-loop-holds Inv-loop μ-loop
-loop-holds c = (search needs, refl, filled-none (c .args .dollar) (zeros 416))
+loop-holds c = (search needs, refl, filled-none (c .args .dollar) (zeros tableBytes))
 
 double-requires : tie.Need-double-requires Inv-loop μ-loop
 double-requires c κs = search needs
@@ -44,7 +45,7 @@ loop-again c =
     let stored = c .before .store in (
       omega arith,
       stored .kept .0 ∙ l .inv .1,
-      filled-more (s .args .dollar) (zeros 416) (l .table) (l .l) (stored .last .0) (next .result) (l .i) (l .inv .2) (next .ensures) (stored .ensures),
+      filled-more (s .args .dollar) (zeros tableBytes) (l .table) (l .l) (stored .last .0) (next .result) (l .i) (l .inv .2) (next .ensures) (stored .ensures),
     )
 
 returns : tie.Need-returns Inv-loop μ-loop
@@ -52,7 +53,7 @@ returns c =
     let s = c .before .before in
     let l = c .before .loop in
     let e : l .i ≡ s .args .m = omega arith in
-    filled-all (s .args .dollar) (l .table) (l .l) (s .args .m) (subst (Filled (s .args .dollar) (zeros 416) (l .table) (l .l)) e (l .inv .2))
+    filled-all (s .args .dollar) (l .table) (l .l) (s .args .m) (subst (Filled (s .args .dollar) (zeros tableBytes) (l .table) (l .l)) e (l .inv .2))
 
 pub l-table-spec : {M : Type 1} → statement M
 l-table-spec =

@@ -1,20 +1,7 @@
--- `open_block` meets its contract: its three calls, one in the other.
--- Assumes nothing.
+-- `open_block` meets its contract: its three calls, one in the other. Assumes nothing.
 use borrow.Author.Needs.{needs}
 use Rattle.ocb_steps.proofs.blocks.open_block.Statement.{statement}
 use Rattle.ocb_steps.proofs.blocks.open_block.Tie as tie
 
-xor-requires : tie.Need-xor-requires
-xor-requires c κs = search needs
-
-decipher-with-requires : tie.Need-decipher-with-requires
-decipher-with-requires c κs = search needs
-
-xor-requires-2 : tie.Need-xor-requires-2
-xor-requires-2 c κs = search needs
-
-returns : tie.Need-returns
-returns c = cc
-
 pub open-block-spec : {M : Type 1} → statement M
-open-block-spec = tie.close (tie.spec xor-requires decipher-with-requires xor-requires-2 returns)
+open-block-spec = tie.close (tie.spec (λ c κs. search needs) (λ c κs. search needs) (λ c κs. search needs) (λ c. cc))

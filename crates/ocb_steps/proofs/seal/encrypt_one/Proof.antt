@@ -1,60 +1,31 @@
--- `encrypt_one` meets its contract: its calls make the offset, the text and the checksum of one block.
--- Assumes nothing.
+-- `encrypt_one` meets its contract: its calls make the offset, the text and the checksum of one block. Assumes nothing.
 use mathlib.Core.Path.{refl}
-use Prim.Native.Nat.{_+_}
+use mathlib.Core.Bool.{false}
 use native.Mathlib.Omega.{arith}
 use borrow.Author.Needs.{needs}
-use Rattle.standards.specs.Rfc7253.{sealBlock, plainBlock}
-use Rattle.ocb_variables.specs.Held.{stateKey}
-use Rattle.ocb_steps.proofs.StepLaws.{number-fits, one-made}
+use Rattle.standards.specs.Rfc7253.{sealBlock}
+use Rattle.ocb_laws.proofs.TableLaws.{number-fits}
+use Rattle.ocb_variables.specs.Held.{lentKey}
+use Rattle.ocb_steps.proofs.StepLaws.{one-made}
 use Rattle.ocb_steps.proofs.seal.encrypt_one.Statement.{statement}
 use Rattle.ocb_steps.proofs.seal.encrypt_one.Tie as tie
 
-load-requires : tie.Need-load-requires
-load-requires c κs = search needs
-
-add-next-offset : tie.Need-add-next-offset
-add-next-offset c =
-    let s = c .before .before .before .before .before in
-    omega (arith, number-fits (s .args .m) (s .args .i + 1) (s .pre .2) (s .pre .1))
-
-next-offset-requires : tie.Need-next-offset-requires
-next-offset-requires c κs = search needs
-
-seal-block-requires : tie.Need-seal-block-requires
-seal-block-requires c κs = search needs
-
-xor-requires : tie.Need-xor-requires
-xor-requires c κs = search needs
-
-store-requires : tie.Need-store-requires
-store-requires c κs = search needs
-
-same-length : tie.Need-same-length
-same-length c = search needs
+add-n : tie.Need-add-n
+add-n c = let s = c .before .before .before .before .before in omega (arith, number-fits (s .pre .1))
 
 returns : tie.Need-returns
 unfolding sealBlock
-returns c star dollar =
+returns c =
     let stored = c .before .before in
     let summed = stored .before .before in
-    let offset = summed .before .before in
+    let turned = summed .before in
+    let offset = turned .before in
     let loaded = offset .before in
     let s = loaded .before .before .before .before .before in
-    let K = stateKey (s .args .rk .now) star dollar (s .args .table .now) in
-    one-made (sealBlock K) plainBlock K (s .args .i) (s .pre .3)
-    (loaded .load .ensures) (offset .next-offset .ensures) (summed .before .seal-block .ensures) refl
+    one-made false (lentKey (s .args .rk .now) (s .args .table .now) (s .args .v)) (s .args .one .now) (s .args .r) (s .pre .2)
+    (loaded .load .ensures) (offset .next-offset .ensures) (turned .seal-block .ensures) refl
     (summed .xor .ensures) (stored .store .ensures)
 
 pub encrypt-one-spec : {M : Type 1} → statement M
 encrypt-one-spec =
-    tie.close
-    (tie.spec
-    load-requires
-    add-next-offset
-    next-offset-requires
-    seal-block-requires
-    xor-requires
-    store-requires
-    same-length
-    returns)
+    tie.close (tie.spec (λ c κs. search needs) add-n (λ c κs. search needs) (λ c κs. search needs) (λ c κs. search needs) (λ c κs. search needs) (λ c. search needs) returns)
