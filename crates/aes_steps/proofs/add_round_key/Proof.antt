@@ -6,14 +6,8 @@ use borrow.Author.Needs.{needs}
 use Rattle.aes_steps.proofs.add_round_key.Statement.{statement}
 use Rattle.aes_steps.proofs.add_round_key.Tie as tie
 
-round-key-requires : tie.Need-round-key-requires
-round-key-requires c κs = search needs
-
-add-state-requires : tie.Need-add-state-requires
-add-state-requires c κs = search needs
-
 returns : tie.Need-returns
 returns c = c .add-state .ensures ∙ ap (addState (c .before .before .before .args .s)) (c .before .round-key .ensures)
 
 pub add-round-key-spec : {M : Type 1} → statement M
-add-round-key-spec = tie.close (tie.spec round-key-requires add-state-requires returns)
+add-round-key-spec = tie.close (tie.spec (λ c κs. search needs) (λ c κs. search needs) returns)

@@ -6,12 +6,9 @@ use Rattle.aes_steps.specs.LookUp.{lookUp}
 use Rattle.aes_steps.proofs.look_up.Statement.{statement}
 use Rattle.aes_steps.proofs.look_up.Tie as tie
 
-element-copy-out-result : tie.Need-element-copy-out-result
-element-copy-out-result c = search needs
-
 returns : tie.Need-returns
 unfolding lookUp
 returns c = refl
 
 pub look-up-spec : {M : Type 1} → statement M
-look-up-spec = tie.close (tie.spec element-copy-out-result returns)
+look-up-spec = tie.close (tie.spec (λ c. search needs) returns)

@@ -5,11 +5,8 @@ use Rattle.field.proofs.FieldLaws.{double-byte}
 use Rattle.field.proofs.double.Statement.{statement}
 use Rattle.field.proofs.double.Tie as tie
 
-mul-result : tie.Need-mul-result
-mul-result c = search needs
-
 returns : tie.Need-returns
 returns c = double-byte (c .args .b) (search needs)
 
 pub double-spec : {M : Type 1} → statement M
-double-spec = tie.close (tie.spec mul-result returns)
+double-spec = tie.close (tie.spec (λ c. search needs) returns)

@@ -6,24 +6,6 @@ use borrow.Author.Needs.{needs}
 use Rattle.aes_steps.proofs.inverse.inv_mix.Statement.{statement}
 use Rattle.aes_steps.proofs.inverse.inv_mix.Tie as tie
 
-double-requires : tie.Need-double-requires
-double-requires c κs = search needs
-
-double-requires-2 : tie.Need-double-requires-2
-double-requires-2 c κs = search needs
-
-double-requires-3 : tie.Need-double-requires-3
-double-requires-3 c κs = search needs
-
-double-requires-4 : tie.Need-double-requires-4
-double-requires-4 c κs = search needs
-
-double-requires-5 : tie.Need-double-requires-5
-double-requires-5 c κs = search needs
-
-double-requires-6 : tie.Need-double-requires-6
-double-requires-6 c κs = search needs
-
 returns : tie.Need-returns
 unfolding _⊕_
 returns c =
@@ -35,10 +17,10 @@ pub inv-mix-spec : {M : Type 1} → statement M
 inv-mix-spec =
     tie.close
     (tie.spec
-    double-requires
-    double-requires-2
-    double-requires-3
-    double-requires-4
-    double-requires-5
-    double-requires-6
+    (λ c κs. search needs)
+    (λ c κs. search needs)
+    (λ c κs. search needs)
+    (λ c κs. search needs)
+    (λ c κs. search needs)
+    (λ c κs. search needs)
     returns)
