@@ -6,4 +6,4 @@ use Rattle.aes.proofs.decipher_tables.Statement.{statement}
 use Rattle.aes.proofs.decipher_tables.Tie as tie
 
 pub decipher-tables-spec : {M : Type 1} → statement M
-decipher-tables-spec = tie.close (tie.spec (λ c κs. search needs) (λ c. inv-sbox-deciphers _ (c .inv-sbox .ensures)))
+decipher-tables-spec = tie.close (tie.spec (λ c κs. search needs) (λ c. search (needs, inv-sbox-deciphers)))

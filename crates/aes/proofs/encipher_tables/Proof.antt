@@ -6,4 +6,4 @@ use Rattle.aes.proofs.encipher_tables.Statement.{statement}
 use Rattle.aes.proofs.encipher_tables.Tie as tie
 
 pub encipher-tables-spec : {M : Type 1} → statement M
-encipher-tables-spec = tie.close (tie.spec (λ c κs. search needs) (λ c. sbox-enciphers _ (c .sbox .ensures)))
+encipher-tables-spec = tie.close (tie.spec (λ c κs. search needs) (λ c. search (needs, sbox-enciphers)))

@@ -10,11 +10,11 @@ returns c =
     let third = c .before in
     let second = third .before in
     let first = second .before in
-    let start = first .before .before in (
-      le-read (start .args .s .now) (start .args .at) (start .pre) (first .byte .ensures .0) (second .byte2 .ensures .0)
-          (third .byte3 .ensures .0) (c .byte4 .ensures .0),
-      omega arith,
-    )
+    let start = first .before .before in
+    let sum =
+    le-read (start .args .s .now) (start .args .at) (start .pre) (first .byte .ensures .0) (second .byte2 .ensures .0)
+    (third .byte3 .ensures .0) (c .byte4 .ensures .0) in
+    (omega arith, omega arith)
 
 pub load-le32-spec : {M : Type 1} → statement M
 load-le32-spec =
