@@ -1,17 +1,15 @@
-//! OCB3 (RFC 7253) over AES-128, in place and detached: a safe wrapper over the functions of `include/ocb.h`, which are proved.
-//!
-//! ```
-//! use rukensaz::{Error, Ocb3};
-//! let cipher = Ocb3::new(&[0; 16])?;
-//! let (nonce, mut text, mut tag) = ([1; 12], *b"page", [0; 16]);
-//! cipher.seal_in_place_detached(&nonce, b"tenant 7", &mut text, &mut tag)?;
-//! cipher.open_in_place_detached(&nonce, b"tenant 7", &mut text, &tag)?;
-//! assert_eq!(&text, b"page");
-//! # Ok::<(), Error>(())
-//! ```
+#![doc = include_str!("../README.md")]
 #![no_std]
+#![warn(missing_docs)]
 
 use core::fmt;
+use core::sync::atomic::{compiler_fence, Ordering};
+
+/// The bytes of a key.
+pub const KEY_SIZE: usize = 16;
+
+/// The bytes of a full tag.
+pub const TAG_SIZE: usize = 16;
 
 /// The bytes of a key's state.
 pub const STATE_SIZE: usize = 632;
@@ -21,6 +19,7 @@ pub const MOST_PLACES: usize = 26;
 
 mod linked {
     extern "C" {
+        pub fn ocb_state_size() -> usize;
         pub fn ocb_set_up(state: *mut u8, state_length: usize, key: *const u8, key_length: usize, m: usize) -> usize;
         pub fn ocb_seal(
             state: *const u8,
@@ -51,12 +50,20 @@ mod linked {
     }
 }
 
+/// The size of a state as the linked library has it: [`STATE_SIZE`].
+#[must_use]
+pub fn linked_state_size() -> usize {
+    // Safety: the function takes nothing and touches no memory.
+    unsafe { linked::ocb_state_size() }
+}
+
 /// Why a call was refused. [`Error::number`] gives the number of `include/ocb.h`.
 #[derive(Clone, Copy, Debug, PartialEq, Eq)]
+#[non_exhaustive]
 pub enum Error {
     /// 1: the key is not 16 bytes.
     KeySize,
-    /// 2: the number of places is not in 1..=26.
+    /// 2: the number of places is not 1 to 26.
     Places,
     /// 3: the nonce is not 6 to 15 bytes.
     NonceSize,
@@ -66,8 +73,11 @@ pub enum Error {
     TextSize,
     /// 6: the associated data are too long for the places.
     DataSize,
-    /// 7: the tag is not the text's. Every byte of the text is now zero. `calls` blocks were handed to the cipher.
-    TagDiffers { calls: usize },
+    /// 7: the tag is not the text's. Every byte of the text is now zero.
+    TagDiffers {
+        /// The number of blocks handed to the cipher.
+        calls: usize,
+    },
     /// Any other number: the library is not the one that this crate was written for.
     Unknown(usize),
 }
@@ -88,6 +98,7 @@ impl Error {
     }
 
     /// The number that the library gave.
+    #[must_use]
     pub fn number(&self) -> usize {
         match *self {
             Error::KeySize => 1,
@@ -102,15 +113,16 @@ impl Error {
     }
 }
 
+/// The texts of `ocb_message` in `include/ocb.h`.
 impl fmt::Display for Error {
     fn fmt(&self, f: &mut fmt::Formatter<'_>) -> fmt::Result {
         match self {
             Error::KeySize => f.write_str("the key is not 16 bytes"),
-            Error::Places => f.write_str("the number of places is not in 1..=26"),
+            Error::Places => f.write_str("the number of places is not 1 to 26"),
             Error::NonceSize => f.write_str("the nonce is not 6 to 15 bytes"),
             Error::TagSize => f.write_str("the tag is not 1 to 16 bytes"),
-            Error::TextSize => f.write_str("the text is too long"),
-            Error::DataSize => f.write_str("the associated data are too long"),
+            Error::TextSize => f.write_str("the text is too long for the places"),
+            Error::DataSize => f.write_str("the associated data are too long for the places"),
             Error::TagDiffers { .. } => f.write_str("the tag differs"),
             Error::Unknown(number) => write!(f, "the library answered {number}"),
         }
@@ -119,7 +131,8 @@ impl fmt::Display for Error {
 
 impl core::error::Error for Error {}
 
-/// The state of a key. As secret as the key; it is not wiped.
+/// The state of a key, as secret as the key. It is wiped when it is dropped; where it was moved from, or what the linked functions left on
+/// the stack, is not.
 #[derive(Clone)]
 pub struct Ocb3 {
     state: [u8; STATE_SIZE],
@@ -131,22 +144,87 @@ impl fmt::Debug for Ocb3 {
     }
 }
 
+impl Drop for Ocb3 {
+    fn drop(&mut self) {
+        for byte in &mut self.state {
+            // Safety: the reference is valid to write to. The compiler keeps a volatile write, though nothing reads the byte again.
+            unsafe { core::ptr::write_volatile(byte, 0) };
+        }
+        compiler_fence(Ordering::SeqCst);
+    }
+}
+
 impl Ocb3 {
-    /// The state of a key of 16 bytes, for texts and data shorter than 2^30 bytes.
-    pub fn new(key: &[u8]) -> Result<Ocb3, Error> {
+    /// The state of a key, for texts and data shorter than 2^30 bytes.
+    ///
+    /// # Panics
+    ///
+    /// Where the linked library is not the one that this crate was written for.
+    #[must_use]
+    pub fn new(key: &[u8; KEY_SIZE]) -> Ocb3 {
+        Ocb3::with_places(key, MOST_PLACES).expect("a key of 16 bytes")
+    }
+
+    /// The state of a key, for texts and data shorter than 2^30 bytes.
+    ///
+    /// # Errors
+    ///
+    /// [`Error::KeySize`] where the key is not 16 bytes.
+    pub fn new_from_slice(key: &[u8]) -> Result<Ocb3, Error> {
         Ocb3::with_places(key, MOST_PLACES)
     }
 
-    /// The state of a key of 16 bytes, with `m` places for L values: for texts and data shorter than 2^(m + 4) bytes.
+    /// The state of a key, with `m` places for L values: for texts and data shorter than 2^(m + 4) bytes.
+    ///
+    /// # Errors
+    ///
+    /// [`Error::KeySize`] where the key is not 16 bytes, [`Error::Places`] where `m` is not 1 to 26.
     pub fn with_places(key: &[u8], m: usize) -> Result<Ocb3, Error> {
-        let mut state = [0; STATE_SIZE];
+        let mut made = Ocb3 { state: [0; STATE_SIZE] };
+        let state = &mut made.state;
         // Safety: each pointer is a live slice's, with that slice's length, and the state is lent to nobody else.
         let number = unsafe { linked::ocb_set_up(state.as_mut_ptr(), state.len(), key.as_ptr(), key.len(), m) };
-        Error::of(number, 0).map(|_| Ocb3 { state })
+        Error::of(number, 0).map(|_| made)
     }
 
-    /// Seals the buffer where it lies and writes the tag over the whole of `tag`. Gives the number of blocks handed to the cipher.
-    /// A refusal changes neither. Never use a nonce twice under one key.
+    /// Seals the buffer where it lies and gives the tag of 16 bytes. Never use a nonce twice under one key.
+    ///
+    /// # Errors
+    ///
+    /// A nonce that is not 6 to 15 bytes, a buffer or associated data too long for the places. The buffer is then as it was.
+    pub fn encrypt_in_place_detached(
+        &self,
+        nonce: &[u8],
+        associated_data: &[u8],
+        buffer: &mut [u8],
+    ) -> Result<[u8; TAG_SIZE], Error> {
+        let mut tag = [0; TAG_SIZE];
+        self.seal_in_place_detached(nonce, associated_data, buffer, &mut tag)
+            .map(|_| tag)
+    }
+
+    /// Opens the buffer where it lies if the tag is the one that sealing it gives.
+    ///
+    /// # Errors
+    ///
+    /// [`Error::TagDiffers`] where it is not: every byte of the buffer is then zero. A nonce that is not 6 to 15 bytes, a buffer or
+    /// associated data too long for the places: the buffer is then as it was.
+    pub fn decrypt_in_place_detached(
+        &self,
+        nonce: &[u8],
+        associated_data: &[u8],
+        buffer: &mut [u8],
+        tag: &[u8; TAG_SIZE],
+    ) -> Result<(), Error> {
+        self.open_in_place_detached(nonce, associated_data, buffer, tag).map(|_| ())
+    }
+
+    /// Seals as [`Ocb3::encrypt_in_place_detached`] does, with a tag of any size from 1 to 16 bytes, written over the whole of `tag`. Gives
+    /// the number of blocks handed to the cipher.
+    ///
+    /// # Errors
+    ///
+    /// As there, and [`Error::TagSize`]. The buffer and the tag are then as they were.
     pub fn seal_in_place_detached(
         &self,
         nonce: &[u8],
@@ -174,8 +252,12 @@ impl Ocb3 {
         Error::of(number, calls)
     }
 
-    /// Opens the buffer where it lies if `tag` is the one that sealing it gives, and gives the number of blocks handed to the cipher.
-    /// If it is not, every byte of the buffer is zero. Any other refusal changes nothing.
+    /// Opens as [`Ocb3::decrypt_in_place_detached`] does, with a tag of any size from 1 to 16 bytes. Gives the number of blocks handed to
+    /// the cipher. A short tag is soon guessed: let its size be agreed beforehand, never what a message brings.
+    ///
+    /// # Errors
+    ///
+    /// As there, and [`Error::TagSize`], with the buffer as it was.
     pub fn open_in_place_detached(
         &self,
         nonce: &[u8],

@@ -1,0 +1,90 @@
+//! The samples of RFC 7253, appendix A, that are over AES-128: sixteen with a tag of 16 bytes, one with a tag of 12.
+use rukensaz::{Ocb3, TAG_SIZE};
+
+/// Bytes of associated data and of plaintext, which count up from 0; ciphertext with the tag behind it. The sample's place in the list is
+/// the last byte of its nonce.
+const SAMPLES: [(usize, usize, &str); 16] = [
+    (0, 0, "785407bfffc8ad9edcc5520ac9111ee6"),
+    (8, 8, "6820b3657b6f615a5725bda0d3b4eb3a257c9af1f8f03009"),
+    (8, 0, "81017f8203f081277152fade694a0a00"),
+    (0, 8, "45dd69f8f5aae72414054cd1f35d82760b2cd00d2f99bfa9"),
+    (16, 16, "571d535b60b277188be5147170a9a22c3ad7a4ff3835b8c5701c1ccec8fc3358"),
+    (16, 0, "8cf761b6902ef764462ad86498ca6b97"),
+    (0, 16, "5ce88ec2e0692706a915c00aeb8b2396f40e1c743f52436bdf06d8fa1eca343d"),
+    (
+        24,
+        24,
+        "1ca2207308c87c010756104d8840ce1952f09673a448a122c92c62241051f57356d7f3c90bb0e07f",
+    ),
+    (24, 0, "6dc225a071fc1b9f7c69f93b0f1e10de"),
+    (
+        0,
+        24,
+        "221bd0de7fa6fe993eccd769460a0af2d6cded0c395b1c3ce725f32494b9f914d85c0b1eb38357ff",
+    ),
+    (
+        32,
+        32,
+        "bd6f6c496201c69296c11efd138a467abd3c707924b964deaffc40319af5a48540fbba186c5553c68ad9f592a79a4240",
+    ),
+    (32, 0, "fe80690bee8a485d11f32965bc9d2a32"),
+    (
+        0,
+        32,
+        "2942bfc773bda23cabc6acfd9bfd5835bd300f0973792ef46040c53f1432bcdfb5e1dde3bc18a5f840b52e653444d5df",
+    ),
+    (
+        40,
+        40,
+        "d5ca91748410c1751ff8a2f618255b68a0a12e093ff454606e59f9c1d0ddc54b65e8628e568bad7aed07ba06a4a69483a7035490c5769e60",
+    ),
+    (40, 0, "c5cd9d1850c141e358649994ee701b68"),
+    (
+        0,
+        40,
+        "4412923493c57d5de0d700f753cce0d1d2d95060122e9f15a5ddbfc5787e50b5cc55ee507bcb084e479ad363ac366b95a98ca5f3000b1479",
+    ),
+];
+const NONCE: [u8; 12] = [0xbb, 0xaa, 0x99, 0x88, 0x77, 0x66, 0x55, 0x44, 0x33, 0x22, 0x11, 0x00];
+
+fn counting(length: usize) -> Vec<u8> {
+    (0u8..).take(length).collect()
+}
+
+fn bytes(hex: &str) -> Vec<u8> {
+    let places = (0..hex.len()).step_by(2);
+    places
+        .map(|place| u8::from_str_radix(&hex[place..place + 2], 16).unwrap())
+        .collect()
+}
+
+#[test]
+fn full_tags() {
+    let cipher = Ocb3::new(&counting(16).try_into().unwrap());
+    for (place, (data, text, published)) in (0u8..).zip(SAMPLES) {
+        let (data, plain, published) = (counting(data), counting(text), bytes(published));
+        let mut nonce = NONCE;
+        nonce[11] = place;
+        let mut buffer = plain.clone();
+        let tag: [u8; TAG_SIZE] = cipher.encrypt_in_place_detached(&nonce, &data, &mut buffer).unwrap();
+        assert_eq!([&buffer[..], &tag[..]].concat(), published, "sample {place}");
+        cipher.decrypt_in_place_detached(&nonce, &data, &mut buffer, &tag).unwrap();
+        assert_eq!(buffer, plain, "sample {place}");
+    }
+}
+
+#[test]
+fn tag_of_twelve_bytes() {
+    let key: Vec<u8> = (0..16).rev().collect();
+    let cipher = Ocb3::new_from_slice(&key).unwrap();
+    let mut nonce = NONCE;
+    nonce[11] = 0x0d;
+    let (data, mut buffer, mut tag) = (counting(40), counting(40), [0; 12]);
+    assert_eq!(cipher.seal_in_place_detached(&nonce, &data, &mut buffer, &mut tag), Ok(8));
+    assert_eq!(
+        [&buffer[..], &tag[..]].concat(),
+        bytes("1792a4e31e0755fb03e31b22116e6c2ddf9efd6e33d536f1a0124b0a55bae884ed93481529c76b6ad0c515f4d1cdd4fdac4f02aa")
+    );
+    assert_eq!(cipher.open_in_place_detached(&nonce, &data, &mut buffer, &tag), Ok(8));
+    assert_eq!(buffer, counting(40));
+}
