@@ -23,7 +23,7 @@ static void *set_up(void *unused)
 {
     static const uint8_t key[16];
     frame = __builtin_frame_address(0);
-    ocb_set_up(state, sizeof state, key, sizeof key, 26);
+    (ocb_set_up)(state, sizeof state, key, sizeof key, 26);
     return unused;
 }
 
@@ -31,7 +31,7 @@ static void *seal(void *unused)
 {
     size_t calls;
     frame = __builtin_frame_address(0);
-    ocb_seal(state, sizeof state, nonce, sizeof nonce, data, sizeof data, text, length, tag, sizeof tag, &calls);
+    (ocb_seal)(state, sizeof state, nonce, sizeof nonce, data, sizeof data, text, length, tag, sizeof tag, &calls);
     return unused;
 }
 
@@ -39,7 +39,7 @@ static void *open_it(void *unused)
 {
     size_t calls;
     frame = __builtin_frame_address(0);
-    ocb_open(state, sizeof state, nonce, sizeof nonce, data, sizeof data, text, length, tag, sizeof tag, &calls);
+    (ocb_open)(state, sizeof state, nonce, sizeof nonce, data, sizeof data, text, length, tag, sizeof tag, &calls);
     return unused;
 }
 
