@@ -19,7 +19,6 @@ pub const MOST_PLACES: usize = 26;
 
 mod linked {
     extern "C" {
-        pub fn ocb_state_size() -> usize;
         pub fn ocb_set_up(state: *mut u8, state_length: usize, key: *const u8, key_length: usize, m: usize) -> usize;
         pub fn ocb_seal(
             state: *const u8,
@@ -48,13 +47,6 @@ mod linked {
             calls: *mut usize,
         ) -> usize;
     }
-}
-
-/// The size of a state as the linked library has it: [`STATE_SIZE`].
-#[must_use]
-pub fn linked_state_size() -> usize {
-    // Safety: the function takes nothing and touches no memory.
-    unsafe { linked::ocb_state_size() }
 }
 
 /// Why a call was refused. [`Error::number`] gives the number of `include/ocb.h`.

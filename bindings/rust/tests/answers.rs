@@ -1,12 +1,16 @@
 //! Each refusal through the linked library and what it leaves, the texts of the errors, and the wiping of a state.
-use rukensaz::{linked_state_size, Error, Ocb3, KEY_SIZE, STATE_SIZE, TAG_SIZE};
+use rukensaz::{Error, Ocb3, KEY_SIZE, STATE_SIZE, TAG_SIZE};
 use std::mem::MaybeUninit;
 
 const KEY: [u8; KEY_SIZE] = [7; KEY_SIZE];
 
 #[test]
 fn the_state_has_the_library_s_size() {
-    assert_eq!(linked_state_size(), STATE_SIZE);
+    extern "C" {
+        fn ocb_state_size() -> usize;
+    }
+    // Safety: the function takes nothing and touches no memory.
+    assert_eq!(unsafe { ocb_state_size() }, STATE_SIZE);
     assert_eq!(size_of::<Ocb3>(), STATE_SIZE);
 }
 
