@@ -1,0 +1,3 @@
+pub mod Hex
+pub mod Computing
+pub mod Keys
