@@ -3,8 +3,8 @@ use mathlib.Core.Path.{_≡_, refl}
 use mathlib.Core.List.{List}
 use Prim.Native.Nat.{ℕ, _+_}
 use Rattle.standards.specs.Fips197.{encipher, decipher, keyExpansion}
-use Rattle.example_keys.proofs.Hex.{hex}
-use Rattle.example_keys.proofs.Computing.{AES-opened}
+use Rattle.examples_shared.proofs.Hex.{hex}
+use Rattle.examples_shared.proofs.Opened.{AES-opened}
 
 -- the plaintext of all three
 plain : List ℕ

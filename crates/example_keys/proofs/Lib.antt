@@ -1,3 +1,0 @@
-pub mod Hex
-pub mod Computing
-pub mod Keys
