@@ -12,11 +12,12 @@ use Rattle.standards.specs.AesOcb.{AES-128}
 pub record Under (key : List ℕ) (P : Key → Type 0) : Type 0 where
   pub holds : P (AES-128 key)
 
--- the key with the round keys w, and what is a key's own where L_* is s
+-- the key with the round keys w, with what is a key's own where L_* is s
 abbrev pub ready : List ℕ → List ℕ → Key
 ready w s =
+    let K : Key = keyed (encipher 10 w) (decipher 10 w) in
     let own : Key = keyed (λ b. s) (decipher 10 w) in
-    record { ENCIPHER = encipher 10 w; DECIPHER = decipher 10 w; L-* = own .L-*; L-$ = own .L-$; L = own .L }
+    record { ENCIPHER = K .ENCIPHER; DECIPHER = K .DECIPHER; L-* = own .L-*; L-$ = own .L-$; L = own .L }
 
 pub under : {P : Key → Type 0} (key w s : List ℕ) → keyExpansion 4 10 key ≡ w → encipher 10 w (zeros 16) ≡ s → P (ready w s) → Under key P
 under {P} key w s expanded star p =

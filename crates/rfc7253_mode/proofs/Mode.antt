@@ -10,22 +10,27 @@ use Rattle.examples_shared.proofs.Opened.{OCB-opened}
 
 -- ---- The cipher: the first byte goes to the end, and byte x in place i becomes 5 x + e3 (hex) + i, modulo 256. 205 is the inverse of 5
 
-put : ℕ → List ℕ → List ℕ
-put c [] = []
-put c (x ∷ S) = (5 * x + c) % 256 ∷ put (suc c) S
+mixed : ℕ → List ℕ → List ℕ
+mixed c [] = []
+mixed c (x ∷ S) = (5 * x + c) % 256 ∷ mixed (suc c) S
 
-taken : ℕ → List ℕ → List ℕ
-taken c [] = []
-taken c (y ∷ S) = 205 * (y + 512 - c) % 256 ∷ taken (suc c) S
+unmixed : ℕ → List ℕ → List ℕ
+unmixed c [] = []
+unmixed c (y ∷ S) = 205 * (y + 512 - c) % 256 ∷ unmixed (suc c) S
 
 encoded : List ℕ → List ℕ
-encoded b = put 0xe3 (drop 1 b ++ take 1 b)
+encoded b = mixed 0xe3 (drop 1 b ++ take 1 b)
 
 decoded : List ℕ → List ℕ
-decoded b = drop 15 (taken 0xe3 b) ++ take 15 (taken 0xe3 b)
+decoded b = drop 15 (unmixed 0xe3 b) ++ take 15 (unmixed 0xe3 b)
 
 K : Key
 K = keyed encoded decoded
+
+-- on an `unfolding` line it opens the procedures and this cipher
+mode-opened : Unit {0}
+unfolding OCB-opened K encoded decoded mixed unmixed
+mode-opened = tt
 
 -- ---- A nonce of 6 bytes, 50 of data (three blocks and a part), 100 of text (six blocks and a part: L_0 to L_2), a tag of one byte
 
@@ -42,11 +47,11 @@ sealed-6 : List ℕ
 sealed-6 = hex 101 0x6d4fa5e3ac8d7a884a4eea96455a310d676b1773ae4164c07402f876e711f2c7b90359cf50f1fe044602d6bab99c4fd91d43b94b6001a6f032ea268333cb35e1cfd3bba78219d8142c12bc4fedb6247f710f0527bcbd525ce6365a2f7f3dcb55867eeae603
 
 seals-6 : OCB-ENCRYPT K 1 nonce-6 fifty hundred ≡ sealed-6
-unfolding K put encoded nonce-6 fifty hundred sealed-6 OCB-opened
+unfolding nonce-6 fifty hundred sealed-6 mode-opened
 seals-6 = refl
 
 opens-6 : OCB-DECRYPT K 1 nonce-6 fifty sealed-6 ≡ VALID hundred
-unfolding K put taken encoded decoded nonce-6 fifty hundred sealed-6 OCB-opened
+unfolding nonce-6 fifty hundred sealed-6 mode-opened
 opens-6 = refl
 
 -- the tag's and HASH's inputs, which are the same both ways
@@ -69,7 +74,7 @@ seals-6-inputs : OCB-ENCRYPT-inputs K 1 nonce-6 fifty hundred
     ∷ hex 16 0xd3e5b715cf3ae6832e13ac491327fc21
     ∷ hex 16 0xdcd28832e06db9c46164d32e7cb06034
     ∷ last-inputs
-unfolding K put encoded nonce-6 fifty hundred last-inputs OCB-opened
+unfolding nonce-6 fifty hundred last-inputs mode-opened
 seals-6-inputs = refl
 
 opens-6-inputs : OCB-DECRYPT-inputs K 1 nonce-6 fifty sealed-6
@@ -81,7 +86,7 @@ opens-6-inputs : OCB-DECRYPT-inputs K 1 nonce-6 fifty sealed-6
     ∷ hex 16 0x5c774ef1096678d04a485a4db2dc9611
     ∷ hex 16 0xfd8cdf460885bdcfdf0bd35a5fd0f53e
     ∷ last-inputs
-unfolding K put taken encoded decoded nonce-6 fifty sealed-6 last-inputs OCB-opened
+unfolding nonce-6 fifty sealed-6 last-inputs mode-opened
 opens-6-inputs = refl
 
 -- ---- A nonce of 15 bytes, one block of data, two of text, a tag of nine bytes
@@ -100,19 +105,19 @@ opened-15 : List ℕ → Plaintext
 opened-15 T = OCB-DECRYPT K 9 nonce-15 sixteen (sealed-15 ++ T)
 
 opens-15 : opened-15 (hex 9 0x1a1256da427a8698ec) ≡ VALID (hex 32 0x000102030405060708090a0b0c0d0e0f101112131415161718191a1b1c1d1e1f)
-unfolding K put taken encoded decoded nonce-15 sixteen sealed-15 opened-15 OCB-opened
+unfolding nonce-15 sixteen sealed-15 opened-15 mode-opened
 opens-15 = refl
 
 -- one bit of the first byte, and of the last
 refuses-first : opened-15 (hex 9 0x1b1256da427a8698ec) ≡ INVALID
-unfolding K put taken encoded decoded nonce-15 sixteen sealed-15 opened-15 OCB-opened
+unfolding nonce-15 sixteen sealed-15 opened-15 mode-opened
 refuses-first = refl
 
 refuses-last : opened-15 (hex 9 0x1a1256da427a8698ed) ≡ INVALID
-unfolding K put taken encoded decoded nonce-15 sixteen sealed-15 opened-15 OCB-opened
+unfolding nonce-15 sixteen sealed-15 opened-15 mode-opened
 refuses-last = refl
 
 -- fewer bytes than a tag has
 refuses-short : OCB-DECRYPT K 9 nonce-15 sixteen [] ≡ INVALID
-unfolding K put taken encoded decoded nonce-15 sixteen OCB-opened
+unfolding nonce-15 sixteen mode-opened
 refuses-short = refl
