@@ -54,6 +54,15 @@ def written(answer):
     return BAD_CASE if answer is None else answer.written()
 
 
+def read_answer(output):
+    """The answer that the test program wrote; None where it wrote `bad case`."""
+    if output == BAD_CASE:
+        return None
+    first, text, tag, end = output.decode().split("\n")
+    _, number, _, calls = first.split(" ")
+    return Answer(int(number), int(calls), bytes.fromhex(text), bytes.fromhex(tag))
+
+
 def framed(items):
     return b"".join(FRAME.pack(len(item)) + item for item in items)
 
@@ -71,44 +80,37 @@ def unframed(stream):
     return items, place == len(stream)
 
 
-# A list: the mark, then entries until the end of the file. An entry: the case in a frame; one byte, 1 for a bad case, else 0; after 0 the number (one
-# byte), the count of cipher calls (four, little-endian) and text and tag as they stand afterwards, as long as the case's.
-MARK = b"OCBLIST1"
+# A list: the mark, how many entries it has, and the entries. An entry: the case in a frame, and what is stored of its answer in a frame: nothing for a bad
+# case, else the number (one byte), the count of cipher calls (four, little-endian) and text and tag as they stand afterwards.
+MARK = b"OCBLIST2"
 OUTCOME = struct.Struct("<BI")
 
 
+def stored(answer):
+    return b"" if answer is None else OUTCOME.pack(answer.number, answer.calls) + answer.text + answer.tag
+
+
+def told(raw, bytes_stored):
+    """The answer that is stored for a case; None stands for a bad one. Trouble where it does not fit the case."""
+    case = decoded(raw)
+    if case is None and not bytes_stored:
+        return None
+    if case is None or len(bytes_stored) != OUTCOME.size + len(case.text) + len(case.tag):
+        raise Trouble("stores an answer that does not fit its case")
+    text_end = OUTCOME.size + len(case.text)
+    return Answer(*OUTCOME.unpack_from(bytes_stored), bytes_stored[OUTCOME.size : text_end], bytes_stored[text_end:])
+
+
 def list_bytes(entries):
-    parts = [MARK]
-    for raw, answer in entries:
-        parts.append(framed([raw]))
-        if answer is None:
-            parts.append(b"\1")
-        else:
-            parts += [b"\0", OUTCOME.pack(answer.number, answer.calls), answer.text, answer.tag]
-    return b"".join(parts)
+    """A list of pairs: a case's bytes, and what is stored of its answer."""
+    return MARK + FRAME.pack(len(entries)) + b"".join(framed(entry) for entry in entries)
 
 
 def list_entries(content):
-    """The entries (case's bytes, answer or None) of a list. Trouble where its form is wrong."""
+    """The pairs of a list. Trouble where its form is wrong."""
     if content[: len(MARK)] != MARK:
-        raise Trouble("does not start with OCBLIST1")
-    entries, place = [], len(MARK)
-
-    def take(length):
-        nonlocal place
-        if place + length > len(content):
-            raise Trouble(f"ends inside entry {len(entries) + 1}")
-        place += length
-        return content[place - length : place]
-
-    while place < len(content):
-        raw = take(FRAME.unpack(take(FRAME.size))[0])
-        kind, case = take(1)[0], decoded(raw)
-        if kind > 1 or (kind == 1) != (case is None):
-            raise Trouble(f"entry {len(entries) + 1} is marked {kind}, but its case is {'bad' if case is None else 'good'}")
-        if case is None:
-            entries.append((raw, None))
-        else:
-            number, calls = OUTCOME.unpack(take(OUTCOME.size))
-            entries.append((raw, Answer(number, calls, take(len(case.text)), take(len(case.tag)))))
-    return entries
+        raise Trouble("does not start with OCBLIST2")
+    items, whole = unframed(content[len(MARK) + FRAME.size :])
+    if not whole or FRAME.pack(len(items) // 2) != content[len(MARK) :][: FRAME.size] or len(items) % 2:
+        raise Trouble("does not have the entries that it says it has")
+    return list(zip(items[::2], items[1::2]))

@@ -84,6 +84,23 @@ module _ (text tag : List ℕ) {text' tag' : List ℕ} where
 
 -- ---- buffers of 8,192 bytes
 
+-- numbers n and k, a text and a tag are those of the case that was decoded
+pub record Told (d : Decoded) (n k : ℕ) (text tag : List ℕ) : Type 0 where
+  pub case : Case
+  pub is : d ≡ good case
+  pub number : n ≡ outcome case .number
+  pub calls : k ≡ outcome case .calls
+  pub text-is : text ≡ outcome case .text
+  pub tag-is : tag ≡ outcome case .tag
+
+pub shown : {d : Decoded} {n k : ℕ} {text tag : List ℕ} → Told d n k text tag → lines n k text tag ≡ output d
+unfolding output
+shown {d} {n} {k} {text} {tag} w =
+    let o = outcome (w .case) in
+    let same : lines n k text tag ≡ lines (o .number) (o .calls) (o .text) (o .tag) =
+    ap₂ (λ (i j : ℕ). lines i j text tag) (w .number) (w .calls) ∙ ap₂ (λ (v z : List ℕ). lines (o .number) (o .calls) v z) (w .text-is) (w .tag-is) in
+    same ∙ sym (ap output (w .is))
+
 -- the front of a buffer that kept its length
 fronted : (S : List ℕ) (n : ℕ) (d : List ℕ) {d' : List ℕ} → d' ≡ front S n d → length d' ≡ length d → n ≤ length d → take n d' ≡ S
 fronted S n d {d'} e same h =
@@ -98,9 +115,12 @@ module _ (S : List ℕ) {x : Reply} {text' tag' : List ℕ} (left : Left (result
   replied : {y : Reply} → x ≡ y → Left (result (decode S) (zeros 8192) (zeros 8192)) y text' tag'
   replied e = subst (λ (r : Reply). Left (result (decode S) (zeros 8192) (zeros 8192)) r text' tag') e left
 
+  pub told-bad : x ≡ Bad → decode S ≡ bad
+  told-bad e = bad-reply (zeros 8192) (zeros 8192) (decode S) (replied e)
+
   pub shown-bad : x ≡ Bad → badLine ≡ output (decode S)
   unfolding output
-  shown-bad e = sym (ap output (bad-reply (zeros 8192) (zeros 8192) (decode S) (replied e)))
+  shown-bad e = sym (ap output (told-bad e))
 
   pub has-room : x ≡ NoRoom → ⊥
   has-room e =
@@ -116,20 +136,22 @@ module _ (S : List ℕ) {x : Reply} {text' tag' : List ℕ} (left : Left (result
     pub sizes : (t ≤ 8192) × (g ≤ 8192)
     sizes = let s = small S (gave .case) (gave .is) in (omega (arith, gave .text-size), omega (arith, gave .tag-size))
 
-    pub shown : length text' ≡ 8192 → length tag' ≡ 8192 → lines n k (take t text') (take g tag') ≡ output (decode S)
-    unfolding output
-    shown st sg =
+    pub told : length text' ≡ 8192 → length tag' ≡ 8192 → Told (decode S) n k (take t text') (take g tag')
+    told st sg =
         let s = small S (gave .case) (gave .is) in
         let o = outcome (gave .case) in
         let et : take (length (gave .case .text)) text' ≡ o .text =
         fronted (o .text) (length (gave .case .text)) (zeros 8192) (gave .text-left) (st ∙ sym blank) (omega (arith, blank)) in
         let eg : take (length (gave .case .tag)) tag' ≡ o .tag =
         fronted (o .tag) (length (gave .case .tag)) (zeros 8192) (gave .tag-left) (sg ∙ sym blank) (omega (arith, blank)) in
-        let numbers : lines n k (take t text') (take g tag') ≡ lines (o .number) (o .calls) (take t text') (take g tag') =
-        ap₂ (λ (i j : ℕ). lines i j (take t text') (take g tag')) (gave .number) (gave .calls) in
-        let bodies : lines (o .number) (o .calls) (take t text') (take g tag') ≡ lines (o .number) (o .calls) (o .text) (o .tag) =
-        ap₂ (λ (v w : List ℕ). lines (o .number) (o .calls) v w) (ap (λ (i : ℕ). take i text') (gave .text-size) ∙ et) (ap (λ (i : ℕ). take i tag') (gave .tag-size) ∙ eg) in
-        numbers ∙ bodies ∙ sym (ap output (gave .is))
+        record {
+          case = gave .case;
+          is = gave .is;
+          number = gave .number;
+          calls = gave .calls;
+          text-is = ap (λ (i : ℕ). take i text') (gave .text-size) ∙ et;
+          tag-is = ap (λ (i : ℕ). take i tag') (gave .tag-size) ∙ eg;
+        }
 
 -- ---- what respond leaves
 

@@ -73,31 +73,23 @@ fn seal_all(s: State, zeros: &[u8], tag: &mut [u8], c: &mut [u8]) -> usize {
     at
 }
 
-// The last seal, of no text, gives the expected tag.
-fn last_gives(s: State, results: &[u8], tag: &mut [u8], expected: &[u8]) -> bool {
-    let number = nonce(385);
-    let mut none = [0u8; 0];
-    ocb::seal(s, &number, results, &mut none, tag);
-    check::same(tag, expected)
-}
-
-// The whole test gives the expected tag, whose length is the tag length.
-pub fn gives(expected: &[u8]) -> bool {
-    let t = expected.len();
+// Runs the whole test with tags as long as the place lent, of at most 16 bytes, and leaves there the tag of the last seal, which has no text.
+pub fn run(tag: &mut [u8]) {
+    let t = tag.len();
     if 16 < t {
-        return false;
+        return;
     }
     let mut key = [0u8; 16];
     key[15] = (8 * t) as u8;
     let u = ocb::set_up(&key, 26);
     let s = u.state;
     let zeros = [0u8; 128];
-    let mut tag = [0u8; 16];
     let mut results = [0u8; 22400];
-    let n = seal_all(s, &zeros, &mut tag[..t], &mut results);
+    let n = seal_all(s, &zeros, tag, &mut results);
     if 22400 < n {
-        return false;
+        return;
     }
-    let mut last = [0u8; 16];
-    last_gives(s, &results[..n], &mut last[..t], expected)
+    let number = nonce(385);
+    let mut none = [0u8; 0];
+    ocb::seal(s, &number, &results[..n], &mut none, tag);
 }

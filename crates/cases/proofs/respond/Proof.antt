@@ -4,7 +4,7 @@ use native.Mathlib.Omega.{arith}
 use borrow.Author.Needs.{needs}
 use lib.Seq.{length-take-le}
 use Rattle.cases.specs.Case.{decode}
-use Rattle.cases.proofs.Responded.{length-take-most, shown-bad, has-room, sizes, shown, nothing, responds}
+use Rattle.cases.proofs.Responded.{length-take-most, shown-bad, has-room, sizes, told, shown, nothing, responds}
 use Rattle.cases.proofs.respond.Statement.{statement}
 use Rattle.cases.proofs.respond.Tie as tie
 
@@ -72,7 +72,7 @@ returns-4 c =
     let a = c .before .before .before .before .before .before .before .before .before .before .before .before .before .before .before .before .before .args in
     let answer = c .before .before .before .before .before .before .before .before .before .before .before .answer in
     responds (decode (a .case .now)) (a .out .now) (c .before .before .before .before .before .before .before .before .before .before .before .before .before .before .if1 .left)
-    (shown (a .case .now) (answer .ensures) (c .before .before .before .before .before .before .before .number .given .1) (answer .kept .1 .0) (answer .kept .1 .1 .0)) (c .before .before .put-answer .ensures)
+    (shown (told (a .case .now) (answer .ensures) (c .before .before .before .before .before .before .before .number .given .1) (answer .kept .1 .0) (answer .kept .1 .1 .0))) (c .before .before .put-answer .ensures)
 
 pub respond-spec : {M : Type 1} → statement M
 respond-spec =

@@ -1,0 +1,26 @@
+-- What is stored of the answer to a case: its number in one byte, its count of cipher calls in four, the lowest first, then the text and the tag as they
+-- stand afterwards. Of a bad case nothing is stored.
+use mathlib.Core.Path.{_≡_}
+use mathlib.Core.Bool.{Bool, true, false}
+use mathlib.Core.List.{List}
+use Prim.Native.Nat.{ℕ, _+_, _≤_}
+use lib.ListN.{length, getD, take, drop}
+use Rattle.ocb.specs.Answers.{Outcome}
+use Rattle.cases.specs.Case.{word, Decoded, bad, good, outcome}
+
+-- the stored bytes S tell just this outcome
+pub record Tells (S : List ℕ) (o : Outcome) : Type 0 where
+  pub head : 5 ≤ length S
+  pub number : getD S 0 0 ≡ o .number
+  pub calls : word S 1 ≡ o .calls
+  pub text : take (length (o .text)) (drop 5 S) ≡ o .text
+  pub tag : drop (5 + length (o .text)) S ≡ o .tag
+
+-- the stored bytes S are what is owed for a case, as it is decoded
+abbrev pub Owed : Decoded → List ℕ → Type 0
+Owed bad S = length S ≡ 0
+Owed (good c) S = Tells S (outcome c)
+
+-- r says whether P holds
+abbrev pub Decides : Bool → Type 0 → Type 0
+Decides r P = (r ≡ true → P) × (P → r ≡ true)
