@@ -80,9 +80,10 @@ def unframed(stream):
     return items, place == len(stream)
 
 
-# A list: the mark, how many entries it has, and the entries. An entry: the case in a frame, and what is stored of its answer in a frame: nothing for a bad
-# case, else the number (one byte), the count of cipher calls (four, little-endian) and text and tag as they stand afterwards.
-MARK = b"OCBLIST2"
+# A list: the mark, how many entries it has, and the entries, whose parts are frames. The last part is what is stored of the answer: nothing for a bad case,
+# else the number (one byte), the count of cipher calls (four, little-endian) and text and tag as they stand afterwards.
+CASES = b"OCBLIST2"  # an entry: the case, the answer
+PARTS = {CASES: 2}
 OUTCOME = struct.Struct("<BI")
 
 
@@ -101,16 +102,17 @@ def told(raw, bytes_stored):
     return Answer(*OUTCOME.unpack_from(bytes_stored), bytes_stored[OUTCOME.size : text_end], bytes_stored[text_end:])
 
 
-def list_bytes(entries):
-    """A list of pairs: a case's bytes, and what is stored of its answer."""
-    return MARK + FRAME.pack(len(entries)) + b"".join(framed(entry) for entry in entries)
+def list_bytes(mark, entries):
+    return mark + FRAME.pack(len(entries)) + b"".join(framed(entry) for entry in entries)
 
 
 def list_entries(content):
-    """The pairs of a list. Trouble where its form is wrong."""
-    if content[: len(MARK)] != MARK:
-        raise Trouble("does not start with OCBLIST2")
-    items, whole = unframed(content[len(MARK) + FRAME.size :])
-    if not whole or FRAME.pack(len(items) // 2) != content[len(MARK) :][: FRAME.size] or len(items) % 2:
+    """The mark of a list and its entries, each a tuple of its parts. Trouble where the form is wrong."""
+    mark, count = content[:8], content[8 : 8 + FRAME.size]
+    if mark not in PARTS:
+        raise Trouble(f"does not start with {' or '.join(mark.decode() for mark in PARTS)}")
+    items, whole = unframed(content[8 + FRAME.size :])
+    entries = list(zip(*[iter(items)] * PARTS[mark]))
+    if not whole or len(items) != PARTS[mark] * len(entries) or count != FRAME.pack(len(entries)):
         raise Trouble("does not have the entries that it says it has")
-    return list(zip(items[::2], items[1::2]))
+    return mark, entries
