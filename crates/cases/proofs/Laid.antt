@@ -10,7 +10,7 @@ use lib.Seq.{take-at, drop-at}
 use Rattle.ocb.specs.Answers.{setUp, Leaves}
 use Rattle.ocb.specs.declared.Answer.{Answer}
 use Rattle.cases.specs.Case.{Case, body, after, outcome}
-use Rattle.cases.specs.Text.{over}
+use Rattle.lines.specs.Text.{over}
 use Rattle.cases.specs.Replies.{Lays}
 
 pub body-length : (S : List ℕ) (i n : ℕ) → i + n ≤ length S → length (body S i n) ≡ n

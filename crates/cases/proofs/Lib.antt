@@ -1,6 +1,3 @@
-pub mod Over
-pub mod Decimal
-pub mod Lines
 pub mod Flaws
 pub mod Worked
 pub mod Placed

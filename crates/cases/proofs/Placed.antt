@@ -1,5 +1,5 @@
 -- What a table that was found says of its case: it is of good form, and its places are in order and within it. Assumes nothing.
-use mathlib.Core.Path.{_≡_, refl}
+use mathlib.Core.Path.{_≡_, refl, sym, _∙_}
 use mathlib.Core.Bool.{Bool, true, false, cond, _||_}
 use mathlib.Core.List.{List, [], _∷_}
 use Prim.Native.Nat.{ℕ, zero, suc}
@@ -9,6 +9,7 @@ use lib.ListN.{getD}
 use Rattle.cases.specs.Case.{lengths, flaws, any, malformed}
 use Rattle.cases.specs.Places.{places, found}
 use Rattle.cases.specs.declared.table.Table.{Table}
+use Rattle.cases.specs.declared.table.Found.{Found}
 use Rattle.cases.specs.declared.table.Found.the-variants.{Bad, Good}
 use Rattle.cases.proofs.Flaws.{Formed}
 
@@ -54,10 +55,14 @@ is-bad S e = go (malformed S) e
     go true e = refl
     go false e = absurd (let z : _≡_ {A = ℕ} 0 1 = cc in omega arith)
 
-pub is-good : (S : List ℕ) (t : Table) → Good t ≡ found S → Placed S t
+is-good : (S : List ℕ) (t : Table) → Good t ≡ found S → Placed S t
 unfolding found
 is-good S t e = let w = go (malformed S) e in record { well = w .0; is = w .1; form = formed S (w .0) }
   where
     go : (b : Bool) → Good t ≡ cond b Bad (Good (places S (lengths S))) → (b ≡ false) × (t ≡ places S (lengths S))
     go true e = absurd (let z : _≡_ {A = ℕ} 0 1 = cc in omega arith)
     go false e = (refl, cc)
+
+-- what was found for S is the table t
+pub found-good : {x : Found} {S : List ℕ} {t : Table} → x ≡ found S → x ≡ Good t → Placed S t
+found-good {x} {S} {t} e is = is-good S t (sym is ∙ e)

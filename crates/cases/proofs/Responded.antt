@@ -12,7 +12,8 @@ use Rattle.standards.specs.Strings.{zeros}
 use lib.Seq.{take-at, length-take-le}
 use Rattle.io.specs.Counts.{Counts}
 use Rattle.cases.specs.Case.{word, lengths, malformed, bodies, Case, Decoded, bad, good, decode, outcome}
-use Rattle.cases.specs.Text.{lines, badLine, output, Puts}
+use Rattle.lines.specs.Text.{lines, Puts}
+use Rattle.cases.specs.Output.{badLine, output}
 use Rattle.cases.specs.Replies.{front, room, laid, result, Left, written, Responds}
 use Rattle.cases.specs.declared.Reply.{Reply}
 use Rattle.cases.specs.declared.Reply.the-variants.{Bad, NoRoom, Answered}

@@ -1,4 +1,4 @@
 pub mod Case
-pub mod Text
+pub mod Output
 pub mod Places
 pub mod Replies

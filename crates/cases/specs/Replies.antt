@@ -7,7 +7,8 @@ use lib.Dec.{leb}
 use lib.ListN.{length, drop}
 use Rattle.ocb.specs.declared.Answer.{Answer}
 use Rattle.cases.specs.Case.{Case, Decoded, bad, good, outcome}
-use Rattle.cases.specs.Text.{output, over}
+use Rattle.lines.specs.Text.{over}
+use Rattle.cases.specs.Output.{output}
 use Rattle.cases.specs.declared.Reply.{Reply}
 use Rattle.cases.specs.declared.Reply.the-variants.{Bad, NoRoom, Answered}
 

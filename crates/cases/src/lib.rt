@@ -1,7 +1,6 @@
 // A case of the test program: its bytes are read, it is answered through ocb, and the answer is written as text.
 // Any bytes of any length get an answer.
 mod table; // table.rt: what the first 22 bytes of a case say
-mod write; // write.rt: an answer as text
 
 use ocb::Answer;
 use table::Found;
@@ -50,7 +49,8 @@ pub fn work(
     text: &mut [u8],
     tag: &mut [u8],
 ) -> Answer
-    ensures { λ r. ⌜ Leaves (after (setUp (now (key .entry)) m) opens (now (nonce .entry)) (now (ad .entry)) (now (text .entry)) (now (tag .entry))) r (now (text .exit)) (now (tag .exit)) ⌝ }
+    ensures { λ r. ⌜ Leaves (after (setUp (now (key .entry)) m) opens (now (nonce .entry)) (now (ad .entry)) (now (text .entry)) (now (tag .entry))) r
+        (now (text .exit)) (now (tag .exit)) ⌝ }
 {
     let u = ocb::set_up(key, m);
     let number = u.number;
@@ -79,8 +79,8 @@ fn answer_at(case: &[u8], t: Table, text: &mut [u8], tag: &mut [u8]) -> Answer
     let end = t.end;
     let texts = tag_at - text_at;
     let tags = end - tag_at;
-    write::put(text, 0, &case[text_at..tag_at]);
-    write::put(tag, 0, &case[tag_at..end]);
+    lines::put(text, 0, &case[text_at..tag_at]);
+    lines::put(tag, 0, &case[tag_at..end]);
     work(
         t.opens,
         t.m,
@@ -128,13 +128,13 @@ pub fn respond(case: &[u8], out: &mut [u8]) -> usize
     let mut text = [0u8; 8192];
     let mut tag = [0u8; 8192];
     match answer(case, &mut text, &mut tag) {
-        Reply::Bad => write::put(out, 0, b"bad case\n"),
+        Reply::Bad => lines::put(out, 0, b"bad case\n"),
         Reply::NoRoom => 0,
         Reply::Answered {
             number,
             calls,
             text: texts,
             tag: tags,
-        } => write::put_answer(out, number, calls, &text[..texts], &tag[..tags]),
+        } => lines::put_answer(out, number, calls, &text[..texts], &tag[..tags]),
     }
 }

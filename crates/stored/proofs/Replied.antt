@@ -19,5 +19,6 @@ module _ (S : List ℕ) {d : Decoded} where
       → Decides r (Tells S (record { number = n; calls = k; text = text; tag = tag })) → Decides r (Owed d S)
   owed-good {r} {n} {k} {text} {tag} w tells =
       let o = outcome (w .case) in
-      let same : _≡_ {A = Outcome} (record { number = n; calls = k; text = text; tag = tag }) (record { number = o .number; calls = o .calls; text = o .text; tag = o .tag }) = cc in
+      let same : _≡_ {A = Outcome} (record { number = n; calls = k; text = text; tag = tag })
+      (record { number = o .number; calls = o .calls; text = o .text; tag = o .tag }) = cc in
       subst (λ (x : Decoded). Decides r (Owed x S)) (sym (w .is)) (subst (λ (o : Outcome). Decides r (Tells S o)) same tells)

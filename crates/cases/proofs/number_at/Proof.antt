@@ -8,17 +8,11 @@ use Rattle.cases.proofs.number_at.Tie as tie
 returns : tie.Need-returns
 returns c = (λ h. absurd (omega arith), λ h. refl)
 
-sub-if2 : tie.Need-sub-if2
-sub-if2 c = search needs
-
 returns-2 : tie.Need-returns-2
 returns-2 c = (λ h. absurd (omega arith), λ h. refl)
-
-word-requires : tie.Need-word-requires
-word-requires c κs = omega arith
 
 returns-3 : tie.Need-returns-3
 returns-3 c = (λ h. c .word .ensures, λ h. absurd (omega arith))
 
 pub number-at-spec : {M : Type 1} → statement M
-number-at-spec = tie.close (tie.spec returns sub-if2 returns-2 word-requires returns-3)
+number-at-spec = tie.close (tie.spec returns (λ c. search needs) returns-2 (λ c κs. omega arith) returns-3)

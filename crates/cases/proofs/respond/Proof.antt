@@ -11,89 +11,87 @@ use Rattle.cases.proofs.respond.Tie as tie
 returns : tie.Need-returns
 returns c = let a = c .before .before .before .args in nothing (decode (a .case .now)) (a .out .now) (c .if1 .taken)
 
-slice-aggregate-answer : tie.Need-slice-aggregate-answer
-slice-aggregate-answer c = search needs
-
-slice-aggregate-answer-2 : tie.Need-slice-aggregate-answer-2
-slice-aggregate-answer-2 c = search needs
-
-answer-requires : tie.Need-answer-requires
-answer-requires c κs = search needs
-
-enum-told : tie.Need-enum-told
-enum-told c = search needs
-
-slice-aggregate-put : tie.Need-slice-aggregate-put
-slice-aggregate-put c = search needs
-
-put-requires : tie.Need-put-requires
-put-requires c κs = search needs
-
-enum-told-2 : tie.Need-enum-told-2
-enum-told-2 c = search needs
-
-enum-known-number : tie.Need-enum-known-number
-enum-known-number c = search needs
-
 array-share-prefix-text : tie.Need-array-share-prefix-text
-array-share-prefix-text c = omega (arith, sizes (c .before .before .before .before .before .before .before .before .before .before .before .before .args .case .now) (c .before .before .before .before .before .before .answer .ensures) (c .before .before .number .given .1) .0)
+array-share-prefix-text c =
+    let known = c .before .before in
+    let answered = known .before .before .before .before in
+    let most = sizes (answered .before .before .before .before .before .before .args .case .now) (answered .answer .ensures) (known .number .given .1) in
+    omega (arith, most .0)
 
 slice-aggregate-put-answer : tie.Need-slice-aggregate-put-answer
-slice-aggregate-put-answer c = sym (length-take-le _ _ (omega (arith, sizes (c .before .before .before .before .before .before .before .before .before .before .before .before .before .args .case .now) (c .before .before .before .before .before .before .before .answer .ensures) (c .before .before .before .number .given .1) .0)))
+slice-aggregate-put-answer c =
+    let known = c .before .before .before in
+    let answered = known .before .before .before .before in
+    let most = sizes (answered .before .before .before .before .before .before .args .case .now) (answered .answer .ensures) (known .number .given .1) in
+    sym (length-take-le _ _ (omega (arith, most .0)))
 
 array-share-prefix-tag : tie.Need-array-share-prefix-tag
-array-share-prefix-tag c = omega (arith, sizes (c .before .before .before .before .before .before .before .before .before .before .before .before .before .args .case .now) (c .before .before .before .before .before .before .before .answer .ensures) (c .before .before .before .number .given .1) .1)
+array-share-prefix-tag c =
+    let known = c .before .before .before in
+    let answered = known .before .before .before .before in
+    let most = sizes (answered .before .before .before .before .before .before .args .case .now) (answered .answer .ensures) (known .number .given .1) in
+    omega (arith, most .1)
 
 slice-aggregate-put-answer-2 : tie.Need-slice-aggregate-put-answer-2
-slice-aggregate-put-answer-2 c = sym (length-take-le _ _ (omega (arith, sizes (c .before .before .before .before .before .before .before .before .before .before .before .before .before .before .args .case .now) (c .before .before .before .before .before .before .before .before .answer .ensures) (c .before .before .before .before .number .given .1) .1)))
+slice-aggregate-put-answer-2 c =
+    let known = c .before .before .before .before in
+    let answered = known .before .before .before .before in
+    let most = sizes (answered .before .before .before .before .before .before .args .case .now) (answered .answer .ensures) (known .number .given .1) in
+    sym (length-take-le _ _ (omega (arith, most .1)))
 
 put-answer-requires : tie.Need-put-answer-requires
 put-answer-requires c κs =
-    let s = sizes (c .before .before .before .before .before .before .before .before .before .before .before .before .before .before .args .case .now) (c .before .before .before .before .before .before .before .before .answer .ensures) (c .before .before .before .before .number .given .1) in
-    (omega arith, length-take-most _ _ (s .0), length-take-most _ _ (s .1))
-
-same-length : tie.Need-same-length
-same-length c = search needs
+    let known = c .before .before .before .before in
+    let answered = known .before .before .before .before in
+    let most = sizes (answered .before .before .before .before .before .before .args .case .now) (answered .answer .ensures) (known .number .given .1) in
+    (omega arith, length-take-most _ _ (most .0), length-take-most _ _ (most .1))
 
 returns-2 : tie.Need-returns-2
 returns-2 c =
-    let a = c .before .before .before .before .before .before .before .before .before .before .before .before .before .before .before .args in
-    responds (decode (a .case .now)) (a .out .now) (c .before .before .before .before .before .before .before .before .before .before .before .before .if1 .left)
-    (shown-bad (a .case .now) (c .before .before .before .before .before .before .before .before .before .answer .ensures) (c .before .before .before .before .before .enum-told .given .1)) (c .before .before .put .ensures)
+    let line-put = c .before .before in
+    let told = line-put .before .before .before in
+    let answered = told .before .before .before .before in
+    let roomy = answered .before .before .before in
+    let a = roomy .before .before .before .args in
+    responds (decode (a .case .now)) (a .out .now) (roomy .if1 .left)
+    (shown-bad (a .case .now) (answered .answer .ensures) (told .enum-told .given .1)) (line-put .put .ensures)
 
 returns-3 : tie.Need-returns-3
-returns-3 c = absurd (has-room (c .before .before .before .before .before .before .before .before .before .before .args .case .now) (c .before .before .before .before .answer .ensures) (c .enum-told2 .given .1))
-
-same-length-2 : tie.Need-same-length-2
-same-length-2 c = search needs
+returns-3 c =
+    let answered = c .before .before .before .before in
+    absurd (has-room (answered .before .before .before .before .before .before .args .case .now) (answered .answer .ensures) (c .enum-told2 .given .1))
 
 returns-4 : tie.Need-returns-4
 returns-4 c =
-    let a = c .before .before .before .before .before .before .before .before .before .before .before .before .before .before .before .before .before .args in
-    let answer = c .before .before .before .before .before .before .before .before .before .before .before .answer in
-    responds (decode (a .case .now)) (a .out .now) (c .before .before .before .before .before .before .before .before .before .before .before .before .before .before .if1 .left)
-    (shown (told (a .case .now) (answer .ensures) (c .before .before .before .before .before .before .before .number .given .1) (answer .kept .1 .0) (answer .kept .1 .1 .0))) (c .before .before .put-answer .ensures)
+    let lines-put = c .before .before in
+    let known = lines-put .before .before .before .before .before in
+    let answered = known .before .before .before .before in
+    let roomy = answered .before .before .before in
+    let a = roomy .before .before .before .args in
+    let r = answered .answer in
+    responds (decode (a .case .now)) (a .out .now) (roomy .if1 .left)
+    (shown (told (a .case .now) (r .ensures) (known .number .given .1) (r .kept .1 .0) (r .kept .1 .1 .0))) (lines-put .put-answer .ensures)
 
 pub respond-spec : {M : Type 1} → statement M
 respond-spec =
     tie.close
     (tie.spec
     returns
-    slice-aggregate-answer
-    slice-aggregate-answer-2
-    answer-requires
-    enum-told
-    slice-aggregate-put
-    put-requires
-    enum-told-2
-    enum-known-number
+    (λ c. search needs)
+    (λ c. search needs)
+    (λ c κs. search needs)
+    (λ c. search needs)
+    (λ c. search needs)
+    (λ c κs. search needs)
+    (λ c. search needs)
+    (λ c. search needs)
     array-share-prefix-text
     slice-aggregate-put-answer
     array-share-prefix-tag
     slice-aggregate-put-answer-2
     put-answer-requires
-    same-length
+    (λ c. search needs)
     returns-2
     returns-3
-    same-length-2
+    (λ c. search needs)
     returns-4)

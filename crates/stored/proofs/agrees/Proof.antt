@@ -10,23 +10,31 @@ use Rattle.stored.proofs.agrees.Tie as tie
 
 array-share-prefix-text : tie.Need-array-share-prefix-text
 array-share-prefix-text c =
-    let answered = c .before .before .before .before .before in
-    omega (arith, sizes (answered .before .before .before .before .before .args .case .now) (answered .answer .ensures) (c .before .number .given .1) .0)
+    let known = c .before in
+    let answered = known .before .before .before .before in
+    let most = sizes (answered .before .before .before .before .before .args .case .now) (answered .answer .ensures) (known .number .given .1) in
+    omega (arith, most .0)
 
 slice-aggregate-tells : tie.Need-slice-aggregate-tells
 slice-aggregate-tells c =
-    let answered = c .before .before .before .before .before .before in
-    sym (length-take-le _ _ (omega (arith, sizes (answered .before .before .before .before .before .args .case .now) (answered .answer .ensures) (c .before .before .number .given .1) .0)))
+    let known = c .before .before in
+    let answered = known .before .before .before .before in
+    let most = sizes (answered .before .before .before .before .before .args .case .now) (answered .answer .ensures) (known .number .given .1) in
+    sym (length-take-le _ _ (omega (arith, most .0)))
 
 array-share-prefix-tag : tie.Need-array-share-prefix-tag
 array-share-prefix-tag c =
-    let answered = c .before .before .before .before .before .before in
-    omega (arith, sizes (answered .before .before .before .before .before .args .case .now) (answered .answer .ensures) (c .before .before .number .given .1) .1)
+    let known = c .before .before in
+    let answered = known .before .before .before .before in
+    let most = sizes (answered .before .before .before .before .before .args .case .now) (answered .answer .ensures) (known .number .given .1) in
+    omega (arith, most .1)
 
 slice-aggregate-tells-2 : tie.Need-slice-aggregate-tells-2
 slice-aggregate-tells-2 c =
-    let answered = c .before .before .before .before .before .before .before in
-    sym (length-take-le _ _ (omega (arith, sizes (answered .before .before .before .before .before .args .case .now) (answered .answer .ensures) (c .before .before .before .number .given .1) .1)))
+    let known = c .before .before .before in
+    let answered = known .before .before .before .before in
+    let most = sizes (answered .before .before .before .before .before .args .case .now) (answered .answer .ensures) (known .number .given .1) in
+    sym (length-take-le _ _ (omega (arith, most .1)))
 
 returns : tie.Need-returns
 returns c =

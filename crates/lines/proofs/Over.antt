@@ -7,7 +7,7 @@ use native.Mathlib.Omega.{arith}
 use lib.ListN.{length, getD, take, drop, set, length-append}
 use lib.Seq.{take-at, drop-at, drop-drop, length-take-le, take-suc, sets-eq}
 use Rattle.io.specs.Digits.{glyph}
-use Rattle.cases.specs.Text.{hex, over, Puts}
+use Rattle.lines.specs.Text.{hex, over, Puts}
 
 -- a string put behind another
 pub over-over : (d : List ℕ) (at : ℕ) (S T : List ℕ) → at ≤ length d → over (over d at S) (at + length S) T ≡ over d at (S ++ T)

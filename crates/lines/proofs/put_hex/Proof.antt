@@ -1,4 +1,4 @@
--- `cases::write::put_hex` meets its contract. The loop's invariant: the first `i` bytes of `s` stand in hex over `out` from place `at` on. Assumes nothing.
+-- `lines::put_hex` meets its contract. The loop's invariant: the first `i` bytes of `s` stand in hex over `out` from place `at` on. Assumes nothing.
 use mathlib.Core.Path.{_≡_, refl, ap, _∙_}
 use mathlib.Core.List.{List}
 use Prim.Native.Nat.{ℕ, _-_, _≤_}
@@ -6,10 +6,10 @@ use native.Mathlib.Omega.{arith}
 use borrow.Author.Needs.{needs}
 use lib.ListN.{length, take, length-set}
 use lib.Seq.{paste-zero, take-length}
-use Rattle.cases.specs.Text.{hex, over}
-use Rattle.cases.proofs.Over.{hex-length, hex-turn}
-use Rattle.cases.proofs.write.put_hex.Statement.{statement}
-use Rattle.cases.proofs.write.put_hex.Tie as tie
+use Rattle.lines.specs.Text.{hex, over}
+use Rattle.lines.proofs.Over.{hex-length, hex-turn}
+use Rattle.lines.proofs.put_hex.Statement.{statement}
+use Rattle.lines.proofs.put_hex.Tie as tie
 
 abbrev Inv-loop : tie.InvT-loop
 Inv-loop out₀ at s i₀ out i = (i ≤ length s) × (length out ≡ length out₀) × (out ≡ over out₀ at (hex (take i s)))
@@ -21,35 +21,11 @@ loop-holds : tie.Need-loop-holds Inv-loop μ-loop
 unfolding hex
 loop-holds c = let a = c .before .before .args in (search needs, refl, paste-zero (a .out .now) (a .at) (a .s .now))
 
-shared-slice-read-b : tie.Need-shared-slice-read-b Inv-loop μ-loop
-shared-slice-read-b c = search needs
-
-mul-place : tie.Need-mul-place Inv-loop μ-loop
-mul-place c = search needs
-
-add-place : tie.Need-add-place Inv-loop μ-loop
-add-place c = search needs
-
 glyph-requires : tie.Need-glyph-requires Inv-loop μ-loop
 glyph-requires c κs = omega (arith, c .shared-slice-known2 .given (c .before .before .loop .i))
 
-slice-write-out : tie.Need-slice-write-out Inv-loop μ-loop
-slice-write-out c = search needs
-
-glyph-requires-2 : tie.Need-glyph-requires-2 Inv-loop μ-loop
-glyph-requires-2 c κs = search needs
-
-add-out : tie.Need-add-out Inv-loop μ-loop
-add-out c = search needs
-
 slice-write-out-2 : tie.Need-slice-write-out-2 Inv-loop μ-loop
 slice-write-out-2 c = simp length-set (omega arith)
-
-add-i : tie.Need-add-i Inv-loop μ-loop
-add-i c = search needs
-
-loop-less : tie.Need-loop-less Inv-loop μ-loop
-loop-less c = search needs
 
 loop-again : tie.Need-loop-again Inv-loop μ-loop
 loop-again c =
@@ -59,12 +35,6 @@ loop-again c =
       simp length-set (l .inv .1),
       hex-turn (a .out .now) (a .at) (a .s .now) (l .i) (omega arith) (omega arith) (l .inv .1) (l .inv .2) (c .before .glyph .ensures) (c .glyph2 .ensures),
     )
-
-mul-result : tie.Need-mul-result Inv-loop μ-loop
-mul-result c = search needs
-
-add-result : tie.Need-add-result Inv-loop μ-loop
-add-result c = search needs
 
 same-length : tie.Need-same-length Inv-loop μ-loop
 same-length c = c .before .loop .inv .1
@@ -87,18 +57,18 @@ put-hex-spec =
     Inv-loop
     μ-loop
     loop-holds
-    shared-slice-read-b
-    mul-place
-    add-place
+    (λ c. search needs)
+    (λ c. search needs)
+    (λ c. search needs)
     glyph-requires
-    slice-write-out
-    glyph-requires-2
-    add-out
+    (λ c. search needs)
+    (λ c κs. search needs)
+    (λ c. search needs)
     slice-write-out-2
-    add-i
-    loop-less
+    (λ c. search needs)
+    (λ c. search needs)
     loop-again
-    mul-result
-    add-result
+    (λ c. search needs)
+    (λ c. search needs)
     same-length
     returns)

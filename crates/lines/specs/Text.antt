@@ -1,4 +1,4 @@
--- What the test program writes: one line with the number and the count, the text and the tag in lowercase hex, a line each; or `bad case`. In ASCII.
+-- An answer as the test program writes it, in ASCII: one line with the number and the count, then the text and the tag in lowercase hex, a line each.
 use mathlib.Core.Path.{_≡_}
 use mathlib.Core.Bool.{cond}
 use mathlib.Core.List.{List, [], _∷_, _++_}
@@ -6,7 +6,6 @@ use Prim.Native.Nat.{ℕ, zero, suc, _+_, _/_, _%_}
 use lib.Dec.{ltb}
 use lib.ListN.{length, take, drop}
 use Rattle.io.specs.Digits.{glyph}
-use Rattle.cases.specs.Case.{Decoded, bad, good, outcome}
 
 -- two digits to a byte
 unfoldable pub hex : List ℕ → List ℕ
@@ -32,8 +31,12 @@ answerWord = 97 ∷ 110 ∷ 115 ∷ 119 ∷ 101 ∷ 114 ∷ 32 ∷ []
 abbrev pub callsWord : List ℕ
 callsWord = 32 ∷ 99 ∷ 97 ∷ 108 ∷ 108 ∷ 115 ∷ 32 ∷ []
 
+-- a number in decimal behind a word
+abbrev pub named : List ℕ → ℕ → List ℕ
+named word n = word ++ decimal n
+
 abbrev pub numbersLine : ℕ → ℕ → List ℕ
-numbersLine number calls = answerWord ++ decimal number ++ callsWord ++ decimal calls ++ newline
+numbersLine number calls = named answerWord number ++ named callsWord calls ++ newline
 
 abbrev pub hexLine : List ℕ → List ℕ
 hexLine S = hex S ++ newline
@@ -41,15 +44,6 @@ hexLine S = hex S ++ newline
 -- the three lines: the number and the count, the text, the tag
 unfoldable pub lines : ℕ → ℕ → List ℕ → List ℕ → List ℕ
 lines number calls text tag = numbersLine number calls ++ hexLine text ++ hexLine tag
-
--- "bad case" and a newline
-abbrev pub badLine : List ℕ
-badLine = 98 ∷ 97 ∷ 100 ∷ 32 ∷ 99 ∷ 97 ∷ 115 ∷ 101 ∷ newline
-
--- what the test program writes
-unfoldable pub output : Decoded → List ℕ
-output bad = badLine
-output (good c) = lines (outcome c .number) (outcome c .calls) (outcome c .text) (outcome c .tag)
 
 -- d with S over its bytes from place at on
 abbrev pub over : List ℕ → ℕ → List ℕ → List ℕ

@@ -10,7 +10,7 @@ use borrow.Author.Tests.{lt-ltb, le-ltb}
 use lib.Dec.{ltb, lit<, lit≤}
 use lib.ListN.{length, length-append}
 use Rattle.io.specs.Digits.{glyph, digits, Fewest}
-use Rattle.cases.specs.Text.{decimalIn}
+use Rattle.lines.specs.Text.{decimalIn}
 
 ten-le : (k : ℕ) → 10 ≤ 10 ^ suc k
 ten-le zero = lit≤ tt
@@ -29,8 +29,9 @@ decimal-is (suc zero) (suc f) n h w =
 decimal-is (suc (suc k)) (suc f) n h w =
     let large : 10 ^ suc k ≤ n = subst (λ (i : ℕ). 10 ^ i ≤ n) (one-less (suc k)) (w .2 (suc-le-suc (suc-le-suc zero-le))) in
     let ten : 10 ≤ n = le-trans (ten-le k) large in
-    let fewer : Fewest 10 1 (n / 10) (suc k) =
-    (suc-le-suc zero-le, div-lt-iff-lt-mul (lit< tt) .1 (subst (λ (x : ℕ). n < x) (pow-suc 10 (suc k)) (w .1)), λ b. subst (λ (i : ℕ). 10 ^ i ≤ n / 10) (sym (one-less k)) (le-div-iff-mul-le (lit< tt) .1 (subst (λ (x : ℕ). x ≤ n) (pow-suc 10 k) large))) in
+    let below : n / 10 < 10 ^ suc k = div-lt-iff-lt-mul (lit< tt) .1 (subst (λ (x : ℕ). n < x) (pow-suc 10 (suc k)) (w .1)) in
+    let least : 10 ^ k ≤ n / 10 = le-div-iff-mul-le (lit< tt) .1 (subst (λ (x : ℕ). x ≤ n) (pow-suc 10 k) large) in
+    let fewer : Fewest 10 1 (n / 10) (suc k) = (suc-le-suc zero-le, below, λ b. subst (λ (i : ℕ). 10 ^ i ≤ n / 10) (sym (one-less k)) least) in
     ap (λ (x : List ℕ). x ++ (glyph (n % 10) ∷ [])) (decimal-is (suc k) f (n / 10) (le-of-suc-le-suc h) fewer) ∙ sym (simp (le-ltb n 10 ten))
 
 pub decimal-length : (f n : ℕ) → length (decimalIn f n) ≤ f

@@ -4,9 +4,12 @@ use Prim.Native.Nat.{ℕ, _+_, _*_, _≤_}
 use mathlib.Core.Path.{_≡_}
 use native.Mathlib.Omega.{arith}
 use lib.ListN.{length, length-append}
-use Rattle.cases.specs.Text.{numbersLine, hexLine}
-use Rattle.cases.proofs.Decimal.{decimal-length}
-use Rattle.cases.proofs.Over.{hex-length}
+use Rattle.lines.specs.Text.{named, numbersLine, hexLine}
+use Rattle.lines.proofs.Decimal.{decimal-length}
+use Rattle.lines.proofs.Over.{hex-length}
+
+pub named-length : (word : List ℕ) (n : ℕ) → length (named word n) ≤ length word + 20
+named-length word n = simp length-append (omega (arith, decimal-length 20 n))
 
 pub numbers-length : (number calls : ℕ) → length (numbersLine number calls) ≤ 55
 numbers-length number calls =

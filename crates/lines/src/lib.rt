@@ -1,9 +1,10 @@
-// Text put into a lent buffer from a place on: bytes as they are, numbers in decimal, bytes in hex. Each function gives the place behind what it put.
+// An answer as text, put into a lent buffer from a place on: bytes as they are, numbers in decimal, bytes in hex. Each function gives the place behind what it
+// put.
 ghost use mathlib.Core.Path.{_≡_};
 ghost use Prim.Native.Nat.{_+_, _*_, _≤_, _<_};
 ghost use lib.ListN.{length};
 ghost use Rattle.io.specs.Digits.{glyph};
-ghost use Rattle.cases.specs.Text.{Puts, decimal, hex, numbersLine, hexLine, lines};
+ghost use Rattle.lines.specs.Text.{Puts, decimal, hex, named, numbersLine, hexLine, lines};
 
 // Puts s.
 pub fn put(out: &mut [u8], at: usize, s: &[u8]) -> usize
@@ -52,16 +53,23 @@ fn put_decimal(out: &mut [u8], at: usize, n: usize) -> usize
     put(out, at, &digits[..k])
 }
 
+// Puts a word and n in decimal behind it.
+fn put_named(out: &mut [u8], at: usize, word: &[u8], n: usize) -> usize
+    requires { ⌜ at + length (now word) + 20 ≤ length (now out) ⌝ }
+    ensures { λ r. ⌜ Puts (now (out .entry)) at (named (now (word .entry)) n) r (now (out .exit)) ⌝ }
+{
+    let a = put(out, at, word);
+    put_decimal(out, a, n)
+}
+
 // Puts the line of the number and the count.
 fn put_numbers(out: &mut [u8], at: usize, number: usize, calls: usize) -> usize
     requires { ⌜ at + 55 ≤ length (now out) ⌝ }
     ensures { λ r. ⌜ Puts (now (out .entry)) at (numbersLine number calls) r (now (out .exit)) ⌝ }
 {
-    let a = put(out, at, b"answer ");
-    let b = put_decimal(out, a, number);
-    let c = put(out, b, b" calls ");
-    let d = put_decimal(out, c, calls);
-    put(out, d, b"\n")
+    let a = put_named(out, at, b"answer ", number);
+    let b = put_named(out, a, b" calls ", calls);
+    put(out, b, b"\n")
 }
 
 // Puts s as a line of hex.
