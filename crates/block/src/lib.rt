@@ -119,11 +119,7 @@ pub fn store(s: &mut [u8], at: usize, b: Block)
     requires { ⌜ at + 16 ≤ length (now s) ⌝ }
     ensures { λ r. ⌜ now (s .exit) ≡ take at (now (s .entry)) ++ (b ++ drop (at + 16) (now (s .entry))) ⌝ }
 {
-    let mut i = 0;
-    while i < 16 {
-        s[at + i] = b[i];
-        i += 1;
-    }
+    copy_at(s, at, &b);
 }
 
 // ---- Numbers in a slice, the highest byte first

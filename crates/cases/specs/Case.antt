@@ -1,17 +1,18 @@
 -- A case of the test program and what is said of it: a table of contents of 22 bytes, five bodies behind it, and the answer through set_up, seal and open.
 use mathlib.Core.Bool.{Bool, true, false, not, cond, _||_}
 use mathlib.Core.List.{List, [], _∷_}
-use Prim.Native.Nat.{ℕ, _+_, _*_}
+use Prim.Native.Nat.{ℕ, _+_}
 use lib.Dec.{eqb, ltb}
 use lib.ListN.{length, getD, take, drop}
+use Rattle.block.specs.Words.{le}
 use Rattle.ocb.specs.Answers.{Outcome, untouched, unless, setUp, sealed, opened}
 use Rattle.ocb.specs.declared.SetUp.{SetUp}
 
 -- ---- The table of contents: 0 seal or 1 open, m, and five lengths of four bytes, the lowest byte first
 
 -- the number that the four bytes of S from place i on are
-unfoldable pub word : List ℕ → ℕ → ℕ
-word S i = getD S i 0 + getD S (i + 1) 0 * 256 + getD S (i + 2) 0 * 65536 + getD S (i + 3) 0 * 16777216
+abbrev pub word : List ℕ → ℕ → ℕ
+word S i = le (take 4 (drop i S))
 
 -- the lengths of key, nonce, associated data, text and tag
 pub record Lengths : Type 0 where

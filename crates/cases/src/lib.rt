@@ -36,7 +36,7 @@ pub fn number_at(s: &[u8], at: usize) -> usize
     if s.len() - 4 < at {
         return 0;
     }
-    table::word(s, at)
+    block::load_le32(s, at)
 }
 
 // Answers a case whose bodies are lent apart: sets up, then opens or seals the text where it lies.

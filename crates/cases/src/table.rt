@@ -1,8 +1,5 @@
 // The table of contents of a case: its first 22 bytes.
 ghost use mathlib.Core.Path.{_≡_};
-ghost use Prim.Native.Nat.{_+_, _≤_};
-ghost use lib.ListN.{length};
-ghost use Rattle.cases.specs.Case.{word};
 ghost use Rattle.cases.specs.Places.{found};
 
 // Whether to open, m, and where each body behind the key begins. The key begins at 22, and the last body ends at end.
@@ -22,17 +19,6 @@ pub enum Found {
     Good(Table),
 }
 
-// The number that four bytes are, the lowest first.
-pub fn word(case: &[u8], at: usize) -> usize
-    requires { ⌜ at + 4 ≤ length (now case) ⌝ }
-    ensures { λ r. ⌜ r ≡ word (now (case .entry)) at ⌝ }
-{
-    case[at] as usize
-        + case[at + 1] as usize * 256
-        + case[at + 2] as usize * 65536
-        + case[at + 3] as usize * 16777216
-}
-
 // Reads the table and holds it to the bytes that there are.
 pub fn find(case: &[u8]) -> Found
     ensures { λ r. ⌜ r ≡ found (now (case .entry)) ⌝ }
@@ -43,23 +29,23 @@ pub fn find(case: &[u8]) -> Found
     if 1 < case[0] {
         return Found::Bad;
     }
-    let key = word(case, 2);
+    let key = block::load_le32(case, 2);
     if 8192 < key {
         return Found::Bad;
     }
-    let nonce = word(case, 6);
+    let nonce = block::load_le32(case, 6);
     if 8192 < nonce {
         return Found::Bad;
     }
-    let ad = word(case, 10);
+    let ad = block::load_le32(case, 10);
     if 8192 < ad {
         return Found::Bad;
     }
-    let text = word(case, 14);
+    let text = block::load_le32(case, 14);
     if 8192 < text {
         return Found::Bad;
     }
-    let tag = word(case, 18);
+    let tag = block::load_le32(case, 18);
     if 8192 < tag {
         return Found::Bad;
     }

@@ -12,7 +12,7 @@ returns-2 : tie.Need-returns-2
 returns-2 c = (λ h. absurd (omega arith), λ h. refl)
 
 returns-3 : tie.Need-returns-3
-returns-3 c = (λ h. c .word .ensures, λ h. absurd (omega arith))
+returns-3 c = (λ h. c .load-le32 .ensures .0, λ h. absurd (omega arith))
 
 pub number-at-spec : {M : Type 1} → statement M
 number-at-spec = tie.close (tie.spec returns (λ c. search needs) returns-2 (λ c κs. omega arith) returns-3)

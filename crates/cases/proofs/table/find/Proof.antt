@@ -20,19 +20,19 @@ returns-2 : tie.Need-returns-2
 returns-2 c = bad _ 1 (lt-ltb _ _ (c .if2 .taken))
 
 returns-3 : tie.Need-returns-3
-returns-3 c = let e = c .before .word .ensures in bad _ 2 (lt-ltb _ _ (subst (λ (x : ℕ). 8192 < x) e (c .if3 .taken)))
+returns-3 c = let e = c .before .load-le32 .ensures .0 in bad _ 2 (lt-ltb _ _ (subst (λ (x : ℕ). 8192 < x) e (c .if3 .taken)))
 
 returns-4 : tie.Need-returns-4
-returns-4 c = let e = c .before .word2 .ensures in bad _ 3 (lt-ltb _ _ (subst (λ (x : ℕ). 8192 < x) e (c .if4 .taken)))
+returns-4 c = let e = c .before .load-le322 .ensures .0 in bad _ 3 (lt-ltb _ _ (subst (λ (x : ℕ). 8192 < x) e (c .if4 .taken)))
 
 returns-5 : tie.Need-returns-5
-returns-5 c = let e = c .before .word3 .ensures in bad _ 4 (lt-ltb _ _ (subst (λ (x : ℕ). 8192 < x) e (c .if5 .taken)))
+returns-5 c = let e = c .before .load-le323 .ensures .0 in bad _ 4 (lt-ltb _ _ (subst (λ (x : ℕ). 8192 < x) e (c .if5 .taken)))
 
 returns-6 : tie.Need-returns-6
-returns-6 c = let e = c .before .word4 .ensures in bad _ 5 (lt-ltb _ _ (subst (λ (x : ℕ). 8192 < x) e (c .if6 .taken)))
+returns-6 c = let e = c .before .load-le324 .ensures .0 in bad _ 5 (lt-ltb _ _ (subst (λ (x : ℕ). 8192 < x) e (c .if6 .taken)))
 
 returns-7 : tie.Need-returns-7
-returns-7 c = let e = c .before .word5 .ensures in bad _ 6 (lt-ltb _ _ (subst (λ (x : ℕ). 8192 < x) e (c .if7 .taken)))
+returns-7 c = let e = c .before .load-le325 .ensures .0 in bad _ 6 (lt-ltb _ _ (subst (λ (x : ℕ). 8192 < x) e (c .if7 .taken)))
 
 returns-8 : tie.Need-returns-8
 returns-8 c =
@@ -62,7 +62,7 @@ returns-9 c =
       tag = omega arith;
       size = omega arith;
     } in
-    placed S (key-read .word .ensures) (nonce-read .word2 .ensures) (ad-read .word3 .ensures) (text-read .word4 .ensures) (tag-read .word5 .ensures) ∙ good S f
+    placed S (key-read .load-le32 .ensures .0) (nonce-read .load-le322 .ensures .0) (ad-read .load-le323 .ensures .0) (text-read .load-le324 .ensures .0) (tag-read .load-le325 .ensures .0) ∙ good S f
 
 pub find-spec : {M : Type 1} → statement M
 find-spec =
