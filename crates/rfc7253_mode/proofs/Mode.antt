@@ -32,7 +32,7 @@ mode-opened : Unit {0}
 unfolding OCB-opened K encoded decoded mixed unmixed
 mode-opened = tt
 
--- ---- A nonce of 6 bytes, 50 of data (three blocks and a part), 100 of text (six blocks and a part: L_0 to L_2), a tag of one byte
+-- ---- A nonce of 6 bytes, 50 of data (three blocks and a part), 95 of text (five blocks, L_0 to L_2, and a part of 15), a tag of one byte
 
 nonce-6 : List ℕ
 nonce-6 = hex 6 0xf0f1f2f3f4f5
@@ -40,41 +40,40 @@ nonce-6 = hex 6 0xf0f1f2f3f4f5
 fifty : List ℕ
 fifty = hex 50 0x808182838485868788898a8b8c8d8e8f909192939495969798999a9b9c9d9e9fa0a1a2a3a4a5a6a7a8a9aaabacadaeafb0b1
 
-hundred : List ℕ
-hundred = hex 100 0x000102030405060708090a0b0c0d0e0f101112131415161718191a1b1c1d1e1f202122232425262728292a2b2c2d2e2f303132333435363738393a3b3c3d3e3f404142434445464748494a4b4c4d4e4f505152535455565758595a5b5c5d5e5f60616263
+ninety-five : List ℕ
+ninety-five = hex 95 0x000102030405060708090a0b0c0d0e0f101112131415161718191a1b1c1d1e1f202122232425262728292a2b2c2d2e2f303132333435363738393a3b3c3d3e3f404142434445464748494a4b4c4d4e4f505152535455565758595a5b5c5d5e
 
 sealed-6 : List ℕ
-sealed-6 = hex 101 0x6d4fa5e3ac8d7a884a4eea96455a310d676b1773ae4164c07402f876e711f2c7b90359cf50f1fe044602d6bab99c4fd91d43b94b6001a6f032ea268333cb35e1cfd3bba78219d8142c12bc4fedb6247f710f0527bcbd525ce6365a2f7f3dcb55867eeae603
+sealed-6 = hex 96 0x6d4fa5e3ac8d7a884a4eea96455a310d676b1773ae4164c07402f876e711f2c7b90359cf50f1fe044602d6bab99c4fd91d43b94b6001a6f032ea268333cb35e1cfd3bba78219d8142c12bc4fedb6247f736507518e0099fc217ad305ad62a3dd
 
-seals-6 : OCB-ENCRYPT K 1 nonce-6 fifty hundred ≡ sealed-6
-unfolding nonce-6 fifty hundred sealed-6 mode-opened
+seals-6 : OCB-ENCRYPT K 1 nonce-6 fifty ninety-five ≡ sealed-6
+unfolding nonce-6 fifty ninety-five sealed-6 mode-opened
 seals-6 = refl
 
-opens-6 : OCB-DECRYPT K 1 nonce-6 fifty sealed-6 ≡ VALID hundred
-unfolding nonce-6 fifty hundred sealed-6 mode-opened
+opens-6 : OCB-DECRYPT K 1 nonce-6 fifty sealed-6 ≡ VALID ninety-five
+unfolding nonce-6 fifty ninety-five sealed-6 mode-opened
 opens-6 = refl
 
--- the tag's and HASH's inputs, which are the same both ways
+-- the last inputs, Pad's, the tag's and HASH's, which are the same both ways
 last-inputs : List (List ℕ)
 last-inputs =
-    hex 16 0x6f673f8753d00679d2d1649bcf1dcf99
-    ∷ hex 16 0xd8df86390c11c5bc1518af5600ec3cea
+    hex 16 0x704010b06c97492e8db60becb09a439c
+    ∷ hex 16 0xa799cb6db3568aeb4a7fc0217f6bb030
     ∷ hex 16 0x0f1215181b26212c273a3d30334e48ce
     ∷ hex 16 0x00252a3f34717e6b684d42575cd9d4db
     ∷ hex 16 0xbf868d949be2e9f0f7cec5dcd32a22aa
     ∷ hex 16 0x4c724ad1d8afa6bdb48b829990777df7
     ∷ []
 
-seals-6-inputs : OCB-ENCRYPT-inputs K 1 nonce-6 fifty hundred
+seals-6-inputs : OCB-ENCRYPT-inputs K 1 nonce-6 fifty ninety-five
     ≡ hex 16 0x10000000000000000001f0f1f2f3f4c0
     ∷ hex 16 0xb2cc860cceb3773a8ffa5d90d3ef286e
     ∷ hex 16 0xbdfbb92be1e4287dc08d22f7bc78b47b
     ∷ hex 16 0x02581e804e77bfe65f0ea57c338b420a
     ∷ hex 16 0x2c0650fe20e93158f1d06b82dc944a10
     ∷ hex 16 0xd3e5b715cf3ae6832e13ac491327fc21
-    ∷ hex 16 0xdcd28832e06db9c46164d32e7cb06034
     ∷ last-inputs
-unfolding nonce-6 fifty hundred last-inputs mode-opened
+unfolding nonce-6 fifty ninety-five last-inputs mode-opened
 seals-6-inputs = refl
 
 opens-6-inputs : OCB-DECRYPT-inputs K 1 nonce-6 fifty sealed-6
@@ -84,7 +83,6 @@ opens-6-inputs : OCB-DECRYPT-inputs K 1 nonce-6 fifty sealed-6
     ∷ hex 16 0x9b7a656c3aa367c5312559eda63a23fc
     ∷ hex 16 0x0174db8674dda19ffb03773ad36241ce
     ∷ hex 16 0x5c774ef1096678d04a485a4db2dc9611
-    ∷ hex 16 0xfd8cdf460885bdcfdf0bd35a5fd0f53e
     ∷ last-inputs
 unfolding nonce-6 fifty sealed-6 last-inputs mode-opened
 opens-6-inputs = refl
