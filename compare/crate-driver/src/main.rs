@@ -10,7 +10,7 @@
 //! | `error key` | its set-up refuses the key's length |
 //! | `none nonce`, `none tag`, `none m` | it has no such instance |
 //!
-//! Text and tag follow as the crate left them, or the whole answer is `bad case`.
+//! Text and tag follow as the crate left them, or the whole answer is `bad case`. With the argument `--wide` a body may have any length.
 
 mod case;
 mod instances;
@@ -18,7 +18,7 @@ mod instances;
 use std::cell::Cell;
 use std::io::{self, ErrorKind, Read, Write};
 
-use case::Case;
+use case::{Case, LONGEST};
 use instances::{Counting, Outcome, instance};
 
 /// The answer's first line. Text and tag of the case become what the crate leaves.
@@ -50,8 +50,8 @@ fn hex(bytes: &[u8], out: &mut String) {
     out.push('\n');
 }
 
-fn answer(bytes: &[u8]) -> String {
-    let Some(mut case) = Case::read(bytes) else {
+fn answer(bytes: &[u8], longest: usize) -> String {
+    let Some(mut case) = Case::read(bytes, longest) else {
         return "bad case\n".into();
     };
     let mut out = first_line(&mut case);
@@ -75,10 +75,11 @@ fn next_case(input: &mut impl Read) -> io::Result<Option<Vec<u8>>> {
 }
 
 fn run() -> io::Result<()> {
+    let longest = if std::env::args().any(|word| word == "--wide") { usize::MAX } else { LONGEST };
     let mut input = io::stdin().lock();
     let mut output = io::BufWriter::new(io::stdout().lock());
     while let Some(bytes) = next_case(&mut input)? {
-        let answer = answer(&bytes);
+        let answer = answer(&bytes, longest);
         output.write_all(&(answer.len() as u32).to_le_bytes())?;
         output.write_all(answer.as_bytes())?;
     }

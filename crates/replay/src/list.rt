@@ -57,8 +57,12 @@ fn read_frame(fd: i32, buffer: &mut [u8]) -> Frame
     }
 }
 
-// Runs the next entry.
-fn next_entry(fd: i32) -> Step {
+fn compared(agrees: bool) -> Step {
+    if agrees { Step::Agrees } else { Step::Differs }
+}
+
+// Runs the next entry of a list of cases.
+fn next_case(fd: i32) -> Step {
     let mut case = io::large_buffer();
     let cased = read_frame(fd, &mut case);
     if !cased.whole {
@@ -71,11 +75,60 @@ fn next_entry(fd: i32) -> Step {
     }
     let n = cased.size;
     let k = answered.size;
-    if stored::agrees(&case[..n], &answer[..k]) {
-        Step::Agrees
-    } else {
-        Step::Differs
+    compared(stored::agrees(&case[..n], &answer[..k]))
+}
+
+// Runs the call that follows in an entry, under a state.
+fn call_under(fd: i32, state: &[u8], opens: bool) -> Step {
+    let mut nonce = [0u8; 64];
+    let nonce_read = read_frame(fd, &mut nonce);
+    let mut data = [0u8; 8192];
+    let data_read = read_frame(fd, &mut data);
+    let mut text = [0u8; 8192];
+    let text_read = read_frame(fd, &mut text);
+    let mut tag = [0u8; 64];
+    let tag_read = read_frame(fd, &mut tag);
+    let mut answer = [0u8; 16384];
+    let answer_read = read_frame(fd, &mut answer);
+    if !(nonce_read.whole
+        & data_read.whole
+        & text_read.whole
+        & tag_read.whole
+        & answer_read.whole) {
+        return Step::Cut;
     }
+    let nonces = nonce_read.size;
+    let datas = data_read.size;
+    let texts = text_read.size;
+    let tags = tag_read.size;
+    let answers = answer_read.size;
+    compared(stored::agrees_under(
+        state,
+        opens,
+        &nonce[..nonces],
+        &data[..datas],
+        &mut text[..texts],
+        &mut tag[..tags],
+        &answer[..answers],
+    ))
+}
+
+// Runs the next entry of a list of calls under states.
+fn next_call(fd: i32) -> Step {
+    let mut way = [0u8; 1];
+    let way_read = read_frame(fd, &mut way);
+    let mut state = [0u8; 640];
+    let state_read = read_frame(fd, &mut state);
+    if !(way_read.whole & state_read.whole) {
+        return Step::Cut;
+    }
+    let n = state_read.size;
+    call_under(fd, &state[..n], way[0] == 1)
+}
+
+// Runs the next entry: of a list of calls under states, or of cases.
+fn next_entry(fd: i32, calls: bool) -> Step {
+    if calls { next_call(fd) } else { next_case(fd) }
 }
 
 // The file has no more bytes.
@@ -85,13 +138,13 @@ fn ended(fd: i32) -> bool {
 }
 
 // Runs the entries that follow the mark of a list.
-fn run_entries(fd: i32) -> Tally {
+fn run_entries(fd: i32, calls: bool) -> Tally {
     let entries = number(fd);
     let mut agreed = 0;
     let mut wrong = 0;
     let mut i = 0;
     while i < entries {
-        match next_entry(fd) {
+        match next_entry(fd, calls) {
             Step::Cut => {
                 break;
             }
@@ -120,7 +173,10 @@ pub fn run(fd: i32) -> Tally {
     let mut mark = [0u8; 8];
     io::read_full(fd, &mut mark);
     if check::same(&mark, b"OCBLIST2") {
-        return run_entries(fd);
+        return run_entries(fd, false);
+    }
+    if check::same(&mark, b"OCBSTAT1") {
+        return run_entries(fd, true);
     }
     Tally {
         marked: false,

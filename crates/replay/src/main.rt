@@ -1,6 +1,4 @@
-// Runs the stored lists of cases and RFC 7253's iterated tests, and prints a line for each with what came of it. data/README.md says what the lists hold and
-// where each line of the file `stdout` comes from.
-mod iterated; // iterated.rt: RFC 7253, appendix A, the test over a wider range
+// Runs the stored lists and prints a line for each with what came of it. data/README.md says what the lists hold and where they come from.
 mod list; // list.rt: the entries of a list
 
 use libc::STDOUT_FILENO;
@@ -12,14 +10,6 @@ fn say(words: &[u8]) {
 
 fn say_number(n: usize) {
     io::print_decimal(STDOUT_FILENO, n as u64);
-}
-
-fn say_hex(bytes: &[u8]) {
-    let mut i = 0;
-    while i < bytes.len() {
-        io::print_hex(STDOUT_FILENO, bytes[i] as u64, 2);
-        i += 1;
-    }
 }
 
 fn report(t: Tally) {
@@ -54,14 +44,6 @@ fn replay(name: &[u8]) {
     report(tally);
 }
 
-// Runs the iterated test with tags as long as the place lent, and prints the tag that it ends in.
-fn iterate(name: &[u8], tag: &mut [u8]) {
-    iterated::run(tag);
-    say(name);
-    say_hex(tag);
-    say(b"\n");
-}
-
 fn main() {
     replay(b"rfc7253.list");
     replay(b"rfc7253-iterated.list");
@@ -69,11 +51,8 @@ fn main() {
     replay(b"edges.list");
     replay(b"flipped.list");
     replay(b"departures.list");
+    replay(b"long.list");
+    replay(b"states.list");
     replay(b"wrong.list");
-    let mut longest = [0u8; 16];
-    iterate(b"RFC 7253, iterated test, tag of 128 bits: ", &mut longest);
-    let mut middle = [0u8; 12];
-    iterate(b"RFC 7253, iterated test, tag of 96 bits: ", &mut middle);
-    let mut shortest = [0u8; 8];
-    iterate(b"RFC 7253, iterated test, tag of 64 bits: ", &mut shortest);
+    replay(b"wrong-states.list");
 }

@@ -6,6 +6,7 @@ use mathlib.Core.List.{List}
 use Prim.Native.Nat.{ℕ, _+_, _≤_}
 use lib.ListN.{length, getD, take, drop}
 use Rattle.ocb.specs.Answers.{Outcome}
+use Rattle.ocb_c.specs.Lent.{sealedIn, openedIn}
 use Rattle.cases.specs.Case.{word, Decoded, bad, good, outcome}
 
 -- the stored bytes S tell just this outcome
@@ -20,6 +21,11 @@ pub record Tells (S : List ℕ) (o : Outcome) : Type 0 where
 abbrev pub Owed : Decoded → List ℕ → Type 0
 Owed bad S = length S ≡ 0
 Owed (good c) S = Tells S (outcome c)
+
+-- an open or a seal under the state that the buffer B holds, whether set-up made it or not
+abbrev pub under : Bool → List ℕ → List ℕ → List ℕ → List ℕ → List ℕ → Outcome
+under true B N A S T = openedIn B N A S T
+under false B N A S T = sealedIn B N A S T
 
 -- r says whether P holds
 abbrev pub Decides : Bool → Type 0 → Type 0

@@ -1,7 +1,7 @@
 // Whether the port answers a case as a stored list says. specs/Stored.antt says how an answer is stored.
 use cases::Reply;
 ghost use Rattle.cases.specs.Case.{decode};
-ghost use Rattle.stored.specs.Stored.{Tells, Owed, Decides};
+ghost use Rattle.stored.specs.Stored.{Tells, Owed, under, Decides};
 
 // The stored bytes tell this number, count, text and tag, and nothing else.
 fn tells(stored: &[u8], number: usize, calls: usize, text: &[u8], tag: &[u8]) -> bool
@@ -38,4 +38,26 @@ pub fn agrees(case: &[u8], stored: &[u8]) -> bool
             tag: tags,
         } => tells(stored, number, calls, &text[..texts], &tag[..tags]),
     }
+}
+
+// The call is answered as it is stored, under a state in a buffer as crate ocb_c has it, whether set-up made it or not.
+pub fn agrees_under(
+    state: &[u8],
+    opens: bool,
+    nonce: &[u8],
+    ad: &[u8],
+    text: &mut [u8],
+    tag: &mut [u8],
+    stored: &[u8],
+) -> bool
+    ensures { λ r. ⌜ Decides r (Tells (now (stored .entry))
+        (under opens (now (state .entry)) (now (nonce .entry)) (now (ad .entry)) (now (text .entry)) (now (tag .entry)))) ⌝ }
+{
+    let mut calls = 0;
+    if opens {
+        let number = ocb_c::ocb_open(state, nonce, ad, text, tag, &mut calls);
+        return tells(stored, number, calls, text, tag);
+    }
+    let number = ocb_c::ocb_seal(state, nonce, ad, text, tag, &mut calls);
+    tells(stored, number, calls, text, tag)
 }

@@ -7,10 +7,10 @@ use Rattle.replay.proofs.list.run_entries.Statement.{statement}
 use Rattle.replay.proofs.list.run_entries.Tie as tie
 
 abbrev Inv-loop : tie.InvT-loop
-Inv-loop fd entries agreed₀ wrong₀ i₀ agreed wrong i = agreed ≤ i
+Inv-loop fd calls entries agreed₀ wrong₀ i₀ agreed wrong i = agreed ≤ i
 
 abbrev μ-loop : tie.MeasureT-loop
-μ-loop fd entries agreed₀ wrong₀ i₀ agreed wrong i = entries - i
+μ-loop fd calls entries agreed₀ wrong₀ i₀ agreed wrong i = entries - i
 
 loop-again : tie.Need-loop-again Inv-loop μ-loop
 loop-again c = ⊎-elim (λ w. omega arith) (λ w. ⊎-elim (λ v. omega arith) (λ v. omega arith) w) (c .match .came)

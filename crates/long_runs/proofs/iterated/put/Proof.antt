@@ -1,11 +1,11 @@
--- `replay::iterated::put` is safe and ends: the buffer keeps its length. Assumes nothing.
+-- `long_runs::iterated::put` is safe and ends: the buffer keeps its length. Assumes nothing.
 use mathlib.Core.Path.{_≡_}
 use Prim.Native.Nat.{_-_, _≤_}
 use native.Mathlib.Omega.{arith}
 use borrow.Author.Needs.{needs}
 use lib.ListN.{length, length-set}
-use Rattle.replay.proofs.iterated.put.Statement.{statement}
-use Rattle.replay.proofs.iterated.put.Tie as tie
+use Rattle.long_runs.proofs.iterated.put.Statement.{statement}
+use Rattle.long_runs.proofs.iterated.put.Tie as tie
 
 abbrev Inv-loop : tie.InvT-loop
 Inv-loop tag c₀ at i₀ c i = (i ≤ length tag) × (length c ≡ length c₀)

@@ -1,12 +1,12 @@
--- `replay::iterated::seal_all` is safe and ends: the buffers keep their lengths. Assumes nothing.
+-- `long_runs::iterated::seal_all` is safe and ends: the buffers keep their lengths. Assumes nothing.
 use mathlib.Core.Path.{_≡_, sym}
 use Prim.Native.Nat.{_-_, _≤_}
 use native.Mathlib.Omega.{arith}
 use borrow.Author.Needs.{needs}
 use lib.ListN.{length}
 use lib.Seq.{length-take-le}
-use Rattle.replay.proofs.iterated.seal_all.Statement.{statement}
-use Rattle.replay.proofs.iterated.seal_all.Tie as tie
+use Rattle.long_runs.proofs.iterated.seal_all.Statement.{statement}
+use Rattle.long_runs.proofs.iterated.seal_all.Tie as tie
 
 abbrev Inv-loop : tie.InvT-loop
 Inv-loop s zeros tag₀ c₀ at₀ i₀ tag c at i = (i ≤ 128) × (128 ≤ length zeros) × (length tag ≡ length tag₀) × (length c ≡ length c₀)
