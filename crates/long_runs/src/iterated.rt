@@ -27,12 +27,8 @@ fn put(tag: &[u8], c: &mut [u8], at: usize) -> usize {
     if c.len() - at < tag.len() {
         return at;
     }
-    let mut i = 0;
-    while i < tag.len() {
-        c[at + i] = tag[i];
-        i += 1;
-    }
-    at + i
+    block::copy_at(c, at, tag);
+    at + tag.len()
 }
 
 // Seals the text bytes of c from place at on under nonce n, puts the tag behind them and gives the place behind it; at itself where there is no room.
