@@ -114,4 +114,5 @@ word-bytes w j h = at-four (λ x. x < 256) (h (4 * j)) (h (4 * j + 1)) (h (4 * j
 pub add-state : (w : List ℕ) → Bytes w → (j : ℕ) {s : State} → IsState s → IsState (addRoundKey w j s)
 add-state w hw j {s} h =
     of-state (λ r c. at s r c ⊕ at (roundKey w j) r c)
-    (λ r c. below 8 (at s r c) (at (roundKey w j) r c) (h .byte r c) (at-four Bytes (word-bytes w (4 * j) hw) (word-bytes w (4 * j + 1) hw) (word-bytes w (4 * j + 2) hw) (word-bytes w (4 * j + 3) hw) bytes-none c r))
+    (λ r c. below 8 (at s r c) (at (roundKey w j) r c) (h .byte r c)
+    (at-four Bytes (word-bytes w (4 * j) hw) (word-bytes w (4 * j + 1) hw) (word-bytes w (4 * j + 2) hw) (word-bytes w (4 * j + 3) hw) bytes-none c r))

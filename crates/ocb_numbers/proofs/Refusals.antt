@@ -1,11 +1,11 @@
 -- The two lists of numbers: what an admitted size is known to be, and that nothing else is refused. Each test is one of a list's rules.
 -- Assumes nothing.
-use mathlib.Core.Path.{_≡_, refl, sym, ap, _∙_}
+use mathlib.Core.Path.{_≡_, refl, ap, _∙_}
 use mathlib.Core.Bool.{Bool, true, false, not, _||_}
 use Prim.Native.Nat.{ℕ, _+_, _*_, _%_, _^_, _≤_}
 use native.Mathlib.Nat.{one-mul, mod-eq-of-lt, lt-of-le-of-lt}
 use native.Mathlib.Omega.{arith}
-use borrow.Author.Tests.{ltb-false, leb-false, eqb-true, not-false, lt-ltb, le-ltb, lt-leb}
+use borrow.Author.Tests.{ltb-false, leb-false, eqb-true, not-false, le-ltb, lt-leb}
 use lib.Dec.{eqb, ltb, leb, lit<, lit≤}
 use lib.Pow.{pow-mono}
 use Rattle.sizes.specs.Sizes.{keyBytes, places, nonceLeast, nonceMost, tagLeast, tagMost}

@@ -9,7 +9,7 @@ use native.Mathlib.Omega.{arith}
 use lib.Bits.{bitAnd, bitOr, and-mask, and-high}
 use lib.Dec.{lit<}
 use lib.ListN.{length, take, drop, getD, set, List·getD-append, drop-of-length-le, length-append, length-drop, length-replicate}
-use lib.Seq.{getD-take, getD-drop, length-take-le, take-length, take-all, take-at, set-append-left, paste, paste-suc}
+use lib.Seq.{getD-take, getD-drop, length-take-le, take-all, take-at, set-append-left, paste, paste-suc}
 use Rattle.standards.specs.Strings.{_⊕_, _xor_, zeros}
 use Rattle.standards.specs.InBytes.{nonceFront, nonceBlock, bottomOf, topOf, stretchOf, cutOf, initialOffset}
 use Rattle.block.proofs.StringLaws.{xor-length, xor-at}

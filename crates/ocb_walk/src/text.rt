@@ -10,7 +10,6 @@ use ocb_variables::KeyValues;
 use sizes::Block;
 use sizes::RoundKeys;
 use sizes::Table;
-ghost use mathlib.Core.Path.{_≡_};
 ghost use lib.ListN.{length};
 ghost use Rattle.standards.specs.Rfc7253.{sealBlock, openBlock, sealSum, openSum};
 ghost use Rattle.aes.specs.Cipher.{EnciphersWith, DeciphersWith};

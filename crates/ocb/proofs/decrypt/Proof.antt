@@ -21,4 +21,7 @@ returns c =
     (first .initial-offset .ensures) (walked .decrypt-text .ensures) (computed .compute-tag .ensures) (c .tags-equal .ensures)
 
 pub decrypt-spec : {M : Type 1} → statement M
-decrypt-spec = tie.close (tie.spec (λ c κs. search needs) (λ c κs. search needs) (λ c κs. search needs) (λ c κs. search needs) (λ c κs. search needs) tags-equal-requires (λ c. search needs) returns)
+decrypt-spec =
+    tie.close
+    (tie.spec (λ c κs. search needs) (λ c κs. search needs) (λ c κs. search needs) (λ c κs. search needs) (λ c κs. search needs)
+    tags-equal-requires (λ c. search needs) returns)

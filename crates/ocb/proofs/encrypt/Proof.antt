@@ -16,4 +16,7 @@ returns c =
     (first .initial-offset .ensures) (walked .encrypt-text .ensures) (computed .compute-tag .ensures) (written .write-tag .ensures)
 
 pub encrypt-spec : {M : Type 1} → statement M
-encrypt-spec = tie.close (tie.spec (λ c κs. search needs) (λ c κs. search needs) (λ c κs. search needs) (λ c κs. search needs) (λ c κs. search needs) (λ c. search needs) (λ c. search needs) returns)
+encrypt-spec =
+    tie.close
+    (tie.spec (λ c κs. search needs) (λ c κs. search needs) (λ c κs. search needs) (λ c κs. search needs) (λ c κs. search needs)
+    (λ c. search needs) (λ c. search needs) returns)

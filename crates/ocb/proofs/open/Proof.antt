@@ -15,7 +15,16 @@ use Rattle.ocb.proofs.open.Statement.{statement}
 use Rattle.ocb.proofs.open.Tie as tie
 
 -- a state's round keys are bytes: what the types say, taken where nothing else is in sight
-key-bytes : (start : lts.Start (refuse-reads.Asked, refuse-reads.Learnt, calls-reads.Asked, calls-reads.Learnt, decrypt-reads.Asked, decrypt-reads.Learnt, clear-reads.Asked, clear-reads.Learnt) reads.Pre reads.Post)
+key-bytes : (start : lts.Start (
+  refuse-reads.Asked,
+  refuse-reads.Learnt,
+  calls-reads.Asked,
+  calls-reads.Learnt,
+  decrypt-reads.Asked,
+  decrypt-reads.Learnt,
+  clear-reads.Asked,
+  clear-reads.Learnt,
+) reads.Pre reads.Post)
     → Bytes (start .args .s .«round_keys»)
 key-bytes start i = let f : Fits w8 (getD (start .args .s .«round_keys») i 0) = search needs in f .fits
 

@@ -5,40 +5,27 @@ use Rattle.ocb_c.proofs.LentLaws.{admitted, set-up-refused, set-up-done
 use Rattle.ocb_c.proofs.ocb_set_up.Statement.{statement}
 use Rattle.ocb_c.proofs.ocb_set_up.Tie as tie
 
-refuse-size-requires : tie.Need-refuse-size-requires
-refuse-size-requires c κs = search needs
-
-same-length : tie.Need-same-length
-same-length c = search needs
-
 returns : tie.Need-returns
 returns c =
     let a = c .before .before .before .before .before .args in
     set-up-refused (a .state .now) (c .before .refuse-size .ensures) (a .key .now) (a .m) (c .if1 .taken)
 
-set-up-requires : tie.Need-set-up-requires
-set-up-requires c κs = search needs
-
 encode-requires : tie.Need-encode-requires
 encode-requires c κs =
-    admitted (c .before .before .before .before .before .before .before .args .state .now) (sym (c .before .before .before .refuse-size .ensures) ∙ c .before .before .if1 .left)
-
-same-length-2 : tie.Need-same-length-2
-same-length-2 c = search needs
+    let large = c .before .before in
+    let asked = large .before in
+    admitted (asked .before .before .before .before .args .state .now) (sym (asked .refuse-size .ensures) ∙ large .if1 .left)
 
 returns-2 : tie.Need-returns-2
 returns-2 c =
-    let a = c .before .before .before .before .before .before .before .before .before .before .args in
-    set-up-done (a .state .now) (c .before .before .before .before .before .before .refuse-size .ensures) (a .key .now) (a .m) (c .before .before .before .before .before .if1 .left) (c .before .before .before .before .set-up .ensures) (c .before .before .encode .ensures)
+    let written = c .before .before in
+    let made = written .before .before in
+    let large = made .before in
+    let asked = large .before in
+    let a = asked .before .before .before .before .args in
+    set-up-done (a .state .now) (asked .refuse-size .ensures) (a .key .now) (a .m) (large .if1 .left) (made .set-up .ensures) (written .encode .ensures)
 
 pub ocb-set-up-spec : {M : Type 1} → statement M
 ocb-set-up-spec =
     tie.close
-    (tie.spec
-    refuse-size-requires
-    same-length
-    returns
-    set-up-requires
-    encode-requires
-    same-length-2
-    returns-2)
+    (tie.spec (λ c κs. search needs) (λ c. search needs) returns (λ c κs. search needs) encode-requires (λ c. search needs) returns-2)

@@ -62,7 +62,8 @@ returns-9 c =
       tag = omega arith;
       size = omega arith;
     } in
-    placed S (key-read .load-le32 .ensures .0) (nonce-read .load-le322 .ensures .0) (ad-read .load-le323 .ensures .0) (text-read .load-le324 .ensures .0) (tag-read .load-le325 .ensures .0) ∙ good S f
+    placed S (key-read .load-le32 .ensures .0) (nonce-read .load-le322 .ensures .0) (ad-read .load-le323 .ensures .0) (text-read .load-le324 .ensures .0)
+    (tag-read .load-le325 .ensures .0) ∙ good S f
 
 pub find-spec : {M : Type 1} → statement M
 find-spec =

@@ -1,5 +1,4 @@
 -- `decrypt_one` meets its contract: its calls make the offset, the text and the checksum of one block. Assumes nothing.
-use mathlib.Core.Path.{refl}
 use mathlib.Core.Bool.{true}
 use native.Mathlib.Omega.{arith}
 use borrow.Author.Needs.{needs}

@@ -1,5 +1,5 @@
 -- `wide_decrypt` meets its contract: its calls make the offsets, the text and the checksums of two blocks. Assumes nothing.
-use mathlib.Core.Path.{refl, sym, _∙_}
+use mathlib.Core.Path.{sym, _∙_}
 use mathlib.Core.Bool.{true}
 use native.Mathlib.Nat.{le-of-eq}
 use native.Mathlib.Omega.{arith}
@@ -48,5 +48,6 @@ returns c =
 pub wide-decrypt-spec : {M : Type 1} → statement M
 wide-decrypt-spec =
     tie.close
-    (tie.spec (λ c κs. search needs) (λ c κs. search needs) add-n1 add-n2 next-offset-requires (λ c κs. search needs) (λ c κs. search needs) (λ c κs. search needs) (λ c κs. search needs) (λ c κs. search needs)
+    (tie.spec (λ c κs. search needs) (λ c κs. search needs) add-n1 add-n2 next-offset-requires
+    (λ c κs. search needs) (λ c κs. search needs) (λ c κs. search needs) (λ c κs. search needs) (λ c κs. search needs)
     (λ c κs. search needs) store-requires-2 (λ c. search needs) returns)

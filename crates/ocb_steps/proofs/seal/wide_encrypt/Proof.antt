@@ -48,5 +48,6 @@ returns c =
 pub wide-encrypt-spec : {M : Type 1} → statement M
 wide-encrypt-spec =
     tie.close
-    (tie.spec (λ c κs. search needs) (λ c κs. search needs) add-n1 add-n2 next-offset-requires (λ c κs. search needs) (λ c κs. search needs) (λ c κs. search needs) (λ c κs. search needs) (λ c κs. search needs)
+    (tie.spec (λ c κs. search needs) (λ c κs. search needs) add-n1 add-n2 next-offset-requires
+    (λ c κs. search needs) (λ c κs. search needs) (λ c κs. search needs) (λ c κs. search needs) (λ c κs. search needs)
     (λ c κs. search needs) store-requires-2 (λ c. search needs) returns)

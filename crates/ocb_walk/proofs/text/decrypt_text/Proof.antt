@@ -1,7 +1,7 @@
 -- `decrypt_text` meets its contract: the whole blocks are walked, and a last part is opened behind them. Assumes nothing.
 use mathlib.Core.Path.{refl}
 use mathlib.Core.Bool.{true}
-use Prim.Native.Nat.{_+_, _-_, _*_, _/_}
+use Prim.Native.Nat.{_-_, _*_, _/_}
 use native.Mathlib.Omega.{arith}
 use borrow.Author.Needs.{needs}
 use lib.ListN.{length}
@@ -33,4 +33,5 @@ returns-2 c =
 
 pub decrypt-text-spec : {M : Type 1} → statement M
 decrypt-text-spec =
-    tie.close (tie.spec (λ c. search needs) (λ c κs. search needs) (λ c. search needs) (λ c. search needs) (λ c. search needs) (λ c κs. search needs) (λ c. search needs) returns (λ c. search needs) returns-2)
+    tie.close (tie.spec (λ c. search needs) (λ c κs. search needs) (λ c. search needs) (λ c. search needs) (λ c. search needs) (λ c κs. search needs) (λ c. search needs)
+    returns (λ c. search needs) returns-2)
