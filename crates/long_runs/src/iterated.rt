@@ -77,7 +77,7 @@ pub fn run(tag: &mut [u8]) {
     }
     let mut key = [0u8; 16];
     key[15] = (8 * t) as u8;
-    let u = ocb::set_up(&key, 26);
+    let u = ocb::set_up(&key, 11);
     let s = u.state;
     let zeros = [0u8; 128];
     let mut results = [0u8; 22400];
