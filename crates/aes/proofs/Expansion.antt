@@ -1,18 +1,24 @@
--- The round keys of a key are bytes, sixteen for each round and one sixteen more: word after word.
+-- The round keys of a key are bytes, sixteen for each round and sixteen more: word after word. In the place that is kept for them they are the
+-- front, and all that the cipher looks at.
 -- Assumes nothing.
-use mathlib.Core.Path.{_≡_, _∙_}
+use mathlib.Core.Path.{_≡_, sym, ap, ap₂, _∙_}
 use mathlib.Core.Bool.{Bool, true, false, cond}
-use mathlib.Core.List.{List}
+use mathlib.Core.List.{List, _++_}
 use Prim.Native.Nat.{ℕ, zero, suc, _+_, _-_, _*_, _/_, _%_, _<_, _≤_}
 use native.Mathlib.Omega.{arith}
 use lib.Dec.{eqb, ltb, lit<}
-use lib.ListN.{length, getD, length-append}
-use Rattle.standards.specs.Strings.{Bytes}
+use lib.ListN.{length, getD, drop, length-append, length-replicate}
+use lib.Seq.{take-at, take-all}
+use Rattle.standards.specs.Strings.{zeros, Bytes}
 use Rattle.standards.specs.Fips197.{rcon, rconWord, rotWord, subWord, temp, word, nextWord, schedule, keyExpansion}
-use Rattle.block.proofs.StringLaws.{bytes-append}
+use Rattle.sizes.specs.Sizes.{roundsFor, KeyLength, roundKeyBytes}
+use Rattle.sizes.proofs.KeyLaws.{key-words}
+use Rattle.block.proofs.StringLaws.{drop-zeros, bytes-zeros, bytes-append}
 use Rattle.field.proofs.FieldLaws.{xtime-below}
 use Rattle.field.proofs.BoxLaws.{sbox-below}
 use Rattle.aes_steps.proofs.StateLaws.{at-four, column-bytes, add-bytes, word-bytes}
+use Rattle.aes.specs.Schedule.{roundKeysOf}
+use Rattle.aes.proofs.FrontLaws.{front}
 
 rcon-below : (i : ℕ) → rcon i < 256
 unfolding rcon
@@ -64,3 +70,39 @@ expansion-bytes nk nr key h = schedule-bytes nk key h (4 * (nr + 1) - nk)
 pub expansion-length : (nk nr : ℕ) (key : List ℕ) → length key ≡ 4 * nk → nk ≤ 4 * (nr + 1) → length (keyExpansion nk nr key) ≡ 16 * (nr + 1)
 unfolding keyExpansion
 expansion-length nk nr key e l = schedule-length nk key (4 * (nr + 1) - nk) ∙ omega arith
+
+-- ---- in their place
+
+module _ (k : List ℕ) where
+  abbrev words : ℕ
+  words = length k / 4
+
+  abbrev nr : ℕ
+  nr = roundsFor (length k)
+
+  pub round-keys-bytes : Bytes k → Bytes (roundKeysOf k)
+  unfolding roundKeysOf
+  round-keys-bytes h = bytes-append (keyExpansion words nr k) (zeros (roundKeyBytes - 16 * (nr + 1))) (expansion-bytes words nr k h) (bytes-zeros (roundKeyBytes - 16 * (nr + 1)))
+
+  -- as the code makes them: r rounds' words, and what is left of a place of zeros
+  pub round-keys-made : {r : ℕ} {w : List ℕ} → r ≡ nr → w ≡ schedule words k (4 * (r + 1) - words) → w ++ drop (4 * (4 * (r + 1))) (zeros roundKeyBytes) ≡ roundKeysOf k
+  unfolding roundKeysOf keyExpansion
+  round-keys-made {r} er ew =
+      let place : 4 * (4 * (r + 1)) ≡ 16 * (nr + 1) = omega arith in
+      ap₂ _++_ (ew ∙ ap (λ (i : ℕ). schedule words k (4 * (i + 1) - words)) er)
+      (ap (λ (i : ℕ). drop i (zeros roundKeyBytes)) place ∙ drop-zeros (16 * (nr + 1)) roundKeyBytes)
+
+  module _ (h : KeyLength (length k)) where
+    long : length (keyExpansion words nr k) ≡ 16 * (nr + 1)
+    long = let n = key-words h in expansion-length words nr k (n .0) (omega arith)
+
+    pub round-keys-length : length (roundKeysOf k) ≡ roundKeyBytes
+    unfolding roundKeysOf
+    round-keys-length =
+        let n = key-words h in
+        length-append (keyExpansion words nr k) _ ∙ ap₂ _+_ long (length-replicate {A = ℕ} (roundKeyBytes - 16 * (nr + 1)) 0) ∙ omega arith
+
+    pub round-keys-front : front nr (roundKeysOf k) ≡ front nr (keyExpansion words nr k)
+    unfolding roundKeysOf
+    round-keys-front =
+        take-at (keyExpansion words nr k) _ (16 * (nr + 1)) long ∙ sym (take-all (16 * (nr + 1)) (keyExpansion words nr k) (omega (arith, long)))

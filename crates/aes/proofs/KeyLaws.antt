@@ -45,7 +45,7 @@ stored l k a b c d h =
     (length-append (take k l) (a ∷ b ∷ c ∷ d ∷ []) ∙ ap (λ (x : ℕ). x + 4) (length-take-le k l (omega arith))))
 
 -- ---- a turn
-word-take : (w : List ℕ) (n j : ℕ) → 4 * j + 3 < n → word (take n w) j ≡ word w j
+pub word-take : (w : List ℕ) (n j : ℕ) → 4 * j + 3 < n → word (take n w) j ≡ word w j
 word-take w n j h = λ x.
     getD-take n w (4 * j) 0 (omega arith) x ∷ getD-take n w (4 * j + 1) 0 (omega arith) x
     ∷ getD-take n w (4 * j + 2) 0 (omega arith) x ∷ getD-take n w (4 * j + 3) 0 (omega arith) x ∷ []

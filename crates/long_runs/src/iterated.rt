@@ -69,15 +69,19 @@ fn seal_all(s: State, zeros: &[u8], tag: &mut [u8], c: &mut [u8]) -> usize {
     at
 }
 
-// Runs the whole test with tags as long as the place lent, of at most 16 bytes, and leaves there the tag of the last seal, which has no text.
-pub fn run(tag: &mut [u8]) {
+// Runs the whole test with a key as long as the one lent, which is zero, and tags as long as the place lent, of at most 16 bytes. Leaves there the tag
+// of the last seal, which has no text.
+pub fn run(key: &mut [u8], tag: &mut [u8]) {
     let t = tag.len();
     if 16 < t {
         return;
     }
-    let mut key = [0u8; 16];
-    key[15] = (8 * t) as u8;
-    let u = ocb::set_up(&key, 11);
+    if key.len() == 0 {
+        return;
+    }
+    let last = key.len() - 1;
+    key[last] = (8 * t) as u8;
+    let u = ocb::set_up(key, 11);
     let s = u.state;
     let zeros = [0u8; 128];
     let mut results = [0u8; 22400];

@@ -4,16 +4,16 @@
 use mathlib.Core.Path.{_≡_, refl, sym, ap, ap₂, subst, subst⁻¹, subst₂, _∙_}
 use mathlib.Core.Logic.{_↔_}
 use mathlib.Core.List.{List, _++_}
-use Prim.Native.Nat.{ℕ, zero, suc, _+_, _≤_}
+use Prim.Native.Nat.{ℕ, zero, suc, _+_, _/_, _≤_}
 use native.Mathlib.Omega.{arith}
 use lib.ListN.{length, length-drop, take-append-drop}
 use lib.Seq.{length-take-le}
-use Rattle.sizes.specs.Sizes.{keyWords, aesRounds}
+use Rattle.sizes.specs.Sizes.{roundsFor}
 use Rattle.standards.specs.Strings.{zeros, Bytes, Block}
-use Rattle.standards.specs.Fips197.{keyExpansion}
 use Rattle.standards.specs.Rfc7253.{Key, Plaintext, VALID, INVALID, Offset-0, OCB-ENCRYPT, OCB-ENCRYPT-inputs, OCB-DECRYPT, OCB-DECRYPT-inputs}
-use Rattle.standards.specs.AesOcb.{AES-128}
-use Rattle.aes.proofs.Expansion.{expansion-bytes}
+use Rattle.standards.specs.AesOcb.{AES}
+use Rattle.aes.specs.Schedule.{roundKeysOf}
+use Rattle.aes.proofs.Expansion.{round-keys-bytes}
 use Rattle.ocb_laws.proofs.Cipher.{Cipher}
 use Rattle.ocb_laws.proofs.RoundTrip.{decrypt-encrypt, encrypt-decrypt, decrypt-bytes, encrypt-length}
 use Rattle.ocb_laws.proofs.Calls.{encrypt-calls, decrypt-calls}
@@ -28,11 +28,11 @@ use Rattle.ocb.specs.Terms.{MadeFrom, Encrypts, Told, HoldsBytes}
 use Rattle.ocb_numbers.proofs.RuleLaws.{first-at}
 use Rattle.ocb_numbers.proofs.Refusals.{in-range, refusal-most}
 use Rattle.ocb.proofs.AesKey.{aes-cipher, held-cipher, first-block}
-use Rattle.ocb.proofs.MadeState.{made-state, made-places, state-holds-bytes, seal-is, open-is}
+use Rattle.ocb.proofs.MadeState.{made-state, made-sizes, state-holds-bytes, seal-is, open-is}
 
 -- the number that the sizes ask for; OCB-DECRYPT's verdict under a key, and how many blocks it takes
 abbrev asked : State → List ℕ → List ℕ → List ℕ → List ℕ → ℕ
-asked s N A S T = refusal (s .values .m) (length N) (length A) (length S) (length T)
+asked s N A S T = refusal (s .values .m) (s .values .rounds) (length N) (length A) (length S) (length T)
 
 abbrev decryption : Key → List ℕ → List ℕ → List ℕ → List ℕ → Plaintext
 decryption K N A S T = OCB-DECRYPT K (length T) N A (S ++ T)
@@ -54,7 +54,7 @@ pub refused-zero : (s : State) (N A S T : List ℕ) {r : Answer} {S' T' : List �
 unfolding opened
 refused-zero s N A S T L e =
     zeros-after-7 (asked s N A S T) (decryption (held s) N A S T) (inputs (held s) N A S T) S T
-    (refusal-most (s .values .m) (length N) (length A) (length S) (length T)) L e
+    (refusal-most (s .values .m) (s .values .rounds) (length N) (length A) (length S) (length T)) L e
 
 kept : (n : ℕ) (o : Outcome) (S T : List ℕ) {r : Answer} {S' T' : List ℕ} → Leaves (unless n (untouched S T) o) r S' T' → (n ≡ 0 → r .number ≡ o .number → ⊥)
     → (S' ≡ S) × (T' ≡ T) × (r .calls ≡ 0)
@@ -75,10 +75,11 @@ sizes-untouched s N A S T h = (
   λ k L. kept (asked s N A S T) (decrypted (held s) N A S T) S T L (λ _ e. not-told (decryption (held s) N A S T) (inputs (held s) N A S T) S T h k e),
 )
 
-never : (n : ℕ) (s : State) → (madeUnless n s .number ≡ 0 → ⊥) → (nonce ad text tag : ℕ) → refusal (madeUnless n s .state .values .m) nonce ad text tag ≡ 2
+never : (n : ℕ) (s : State) → (madeUnless n s .number ≡ 0 → ⊥) → (nonce ad text tag : ℕ)
+    → refusal (madeUnless n s .state .values .m) (madeUnless n s .state .values .rounds) nonce ad text tag ≡ 2
 unfolding zeroState refusal
 never zero s h nonce ad text tag = absurd (h refl)
-never (suc n) s h nonce ad text tag = first-at 0 (sizeRules 0 nonce ad text tag) tt refl
+never (suc n) s h nonce ad text tag = first-at 0 (sizeRules 0 0 nonce ad text tag) tt refl
 
 -- a refused set-up's state is answered with 2 forever, and nothing is changed
 pub refused-forever : (k : List ℕ) (m : ℕ) (u : SetUp) → u ≡ setUp k m → (u .number ≡ 0 → ⊥) → (N A S T : List ℕ) {r : Answer} {S' T' : List ℕ}
@@ -88,7 +89,7 @@ unfolding setUp sealed opened
 refused-forever k m u e h N A S T {r} {S'} {T'} =
     let two : asked (u .state) N A S T ≡ 2 =
     ap (λ (v : SetUp). asked (v .state) N A S T) e
-    ∙ never (setUpNumber (length k) m) (stateOf (keyExpansion keyWords aesRounds k) m) (λ z. h (ap (λ (v : SetUp). v .number) e ∙ z)) (length N) (length A) (length S) (length T) in (
+    ∙ never (setUpNumber (length k) m) (stateOf (roundKeysOf k) (roundsFor (length k)) m) (λ z. h (ap (λ (v : SetUp). v .number) e ∙ z)) (length N) (length A) (length S) (length T) in (
       λ L. let M = subst (λ (n : ℕ). Leaves (unless n (sealRefused S T) (encrypted (held (u .state)) N A S T)) r S' T') two L in
           (M .number, M .calls, M .text-left, M .tag-left),
       λ L. let M = subst (λ (n : ℕ). Leaves (unless n (openRefused S T) (decrypted (held (u .state)) N A S T)) r S' T') two L in
@@ -103,30 +104,30 @@ told INVALID calls S T L = (L .number, L .text-left)
 
 module _ {k : List ℕ} {m : ℕ} {u : SetUp} (made : MadeFrom k m u) (N A S T : List ℕ)
     (sizes : InRange m (length N) (length A) (length S) (length T)) {r : Answer} {S' T' : List ℕ} where
-  pub seal-rfc : Leaves (sealed (u .state) N A S T) r S' T' → (r .number ≡ 0) × (S' ++ T' ≡ OCB-ENCRYPT (AES-128 k) (length T) N A S)
+  pub seal-rfc : Leaves (sealed (u .state) N A S T) r S' T' → (r .number ≡ 0) × (S' ++ T' ≡ OCB-ENCRYPT (AES (length k / 4) k) (length T) N A S)
   seal-rfc L =
       let e = seal-is made N A S T sizes in (
         L .number ∙ ap (λ (o : Outcome). o .number) e,
         ap₂ (λ (a b : List ℕ). a ++ b) (L .text-left ∙ ap (λ (o : Outcome). o .text) e) (L .tag-left ∙ ap (λ (o : Outcome). o .tag) e)
-            ∙ take-append-drop (length S) (OCB-ENCRYPT (AES-128 k) (length T) N A S),
+            ∙ take-append-drop (length S) (OCB-ENCRYPT (AES (length k / 4) k) (length T) N A S),
       )
 
-  pub open-rfc : Leaves (opened (u .state) N A S T) r S' T' → Told (OCB-DECRYPT (AES-128 k) (length T) N A (S ++ T)) S r S'
-  open-rfc L = told (decryption (AES-128 k) N A S T) (inputs (AES-128 k) N A S T) S T (subst (λ (o : Outcome). Leaves o r S' T') (open-is made N A S T sizes) L)
+  pub open-rfc : Leaves (opened (u .state) N A S T) r S' T' → Told (OCB-DECRYPT (AES (length k / 4) k) (length T) N A (S ++ T)) S r S'
+  open-rfc L = told (decryption (AES (length k / 4) k) N A S T) (inputs (AES (length k / 4) k) N A S T) S T (subst (λ (o : Outcome). Leaves o r S' T') (open-is made N A S T sizes) L)
 
   -- the count of calls is the number of blocks that RFC 7253's procedure hands to the cipher
   pub calls-seal : Leaves (sealed (u .state) N A S T) r S' T'
-      → (r .calls ≡ length (OCB-ENCRYPT-inputs (AES-128 k) (length T) N A S)) × (r .calls ≡ count (length A) (length S))
+      → (r .calls ≡ length (OCB-ENCRYPT-inputs (AES (length k / 4) k) (length T) N A S)) × (r .calls ≡ count (length A) (length S))
   calls-seal L =
-      let e : r .calls ≡ length (OCB-ENCRYPT-inputs (AES-128 k) (length T) N A S) = L .calls ∙ ap (λ (o : Outcome). o .calls) (seal-is made N A S T sizes) in
-      (e, e ∙ encrypt-calls (AES-128 k) (length T) N A S)
+      let e : r .calls ≡ length (OCB-ENCRYPT-inputs (AES (length k / 4) k) (length T) N A S) = L .calls ∙ ap (λ (o : Outcome). o .calls) (seal-is made N A S T sizes) in
+      (e, e ∙ encrypt-calls (AES (length k / 4) k) (length T) N A S)
 
   pub calls-open : Leaves (opened (u .state) N A S T) r S' T'
-      → (r .calls ≡ length (OCB-DECRYPT-inputs (AES-128 k) (length T) N A (S ++ T))) × (r .calls ≡ count (length A) (length S))
+      → (r .calls ≡ length (OCB-DECRYPT-inputs (AES (length k / 4) k) (length T) N A (S ++ T))) × (r .calls ≡ count (length A) (length S))
   calls-open L =
-      let e : r .calls ≡ length (OCB-DECRYPT-inputs (AES-128 k) (length T) N A (S ++ T)) =
-      L .calls ∙ ap (λ (o : Outcome). o .calls) (open-is made N A S T sizes) ∙ verdict-calls (OCB-DECRYPT (AES-128 k) (length T) N A (S ++ T)) in
-      (e, e ∙ decrypt-calls (AES-128 k) (length T) N A S T refl)
+      let e : r .calls ≡ length (OCB-DECRYPT-inputs (AES (length k / 4) k) (length T) N A (S ++ T)) =
+      L .calls ∙ ap (λ (o : Outcome). o .calls) (open-is made N A S T sizes) ∙ verdict-calls (OCB-DECRYPT (AES (length k / 4) k) (length T) N A (S ++ T)) in
+      (e, e ∙ decrypt-calls (AES (length k / 4) k) (length T) N A S T refl)
     where
       verdict-calls : (D : Plaintext) {n : ℕ} → verdict D n S T .calls ≡ n
       verdict-calls (VALID P) = refl
@@ -140,16 +141,16 @@ accepted-text INVALID S r S' t e = absurd (omega (arith, t .0))
 
 module _ {k : List ℕ} {m : ℕ} {u : SetUp} (made : MadeFrom k m u) (N A S T : List ℕ)
     (sizes : InRange m (length N) (length A) (length S) (length T)) (N-bytes : Bytes N) (S-bytes : Bytes S) where
-  cipher : Cipher (AES-128 k)
+  cipher : Cipher (AES (length k / 4) k)
   cipher = aes-cipher k (made .key-bytes)
 
-  first : Block (Offset-0 (AES-128 k) (length T) N)
-  first = first-block (AES-128 k) cipher (length T) N (sizes .nonce-size) (sizes .tag-size) N-bytes
+  first : Block (Offset-0 (AES (length k / 4) k) (length T) N)
+  first = first-block (AES (length k / 4) k) cipher (length T) N (sizes .nonce-size) (sizes .tag-size) N-bytes
 
   -- a plaintext that encrypts to just these is what decryption gives
-  decrypts : (P : List ℕ) → Encrypts k N A P S T → OCB-DECRYPT (AES-128 k) (length T) N A (S ++ T) ≡ VALID P
+  decrypts : (P : List ℕ) → Encrypts k N A P S T → OCB-DECRYPT (AES (length k / 4) k) (length T) N A (S ++ T) ≡ VALID P
   decrypts P E =
-      ap (OCB-DECRYPT (AES-128 k) (length T) N A) (sym (E .gives))
+      ap (OCB-DECRYPT (AES (length k / 4) k) (length T) N A) (sym (E .gives))
       ∙ decrypt-encrypt cipher (length T) N A (sizes .tag-size .to) first P (E .plain-bytes)
 
   pub open-only : (P Q : List ℕ) → Encrypts k N A P S T → Encrypts k N A Q S T → P ≡ Q
@@ -158,7 +159,7 @@ module _ {k : List ℕ} {m : ℕ} {u : SetUp} (made : MadeFrom k m u) (N A S T :
   module _ {r : Answer} {S' T' : List ℕ} (L : Leaves (opened (u .state) N A S T) r S' T') where
     pub open-gives : r .number ≡ 0 → Encrypts k N A S' S T
     open-gives e =
-        let D : OCB-DECRYPT (AES-128 k) (length T) N A (S ++ T) ≡ VALID S' = accepted-text (decryption (AES-128 k) N A S T) S r S' (open-rfc made N A S T sizes L) e in
+        let D : OCB-DECRYPT (AES (length k / 4) k) (length T) N A (S ++ T) ≡ VALID S' = accepted-text (decryption (AES (length k / 4) k) N A S T) S r S' (open-rfc made N A S T sizes L) e in
         record {
           plain-bytes = decrypt-bytes cipher (length T) N A (sizes .tag-size .to) first S T S' S-bytes refl D;
           gives = encrypt-decrypt cipher (length T) N A (sizes .tag-size .to) first S T S' S-bytes refl D;
@@ -185,14 +186,15 @@ seal-opens s h N A P T N-bytes P-bytes {r} {C} {T'} L e {q} {P'} {T''} M =
     let t : ℕ = length T in
     let E : List ℕ = OCB-ENCRYPT K t N A P in
     let done = not-refused (asked s N A P T) (encrypted K N A P T) P T L e in
-    let sizes : InRange (s .values .m) (length N) (length A) (length P) t = in-range (s .values .m) (length N) (length A) (length P) t (done .0) in
+    let sizes : InRange (s .values .m) (length N) (length A) (length P) t =
+    in-range (s .values .m) (s .values .rounds) (length N) (length A) (length P) t (done .0) .1 in
     let cipher : Cipher K = held-cipher s h in
     let first : Block (Offset-0 K t N) = first-block K cipher t N (sizes .nonce-size) (sizes .tag-size) N-bytes in
     let long : length E ≡ length P + t = encrypt-length cipher t N A (sizes .tag-size .to) first P P-bytes in
     let text-long : length C ≡ length P = ap length (done .1 .text-left) ∙ length-take-le (length P) E (omega arith) in
     let tag-long : length T' ≡ t = ap length (done .1 .tag-left) ∙ length-drop (length P) E ∙ omega arith in
     let whole : C ++ T' ≡ E = ap₂ (λ (a b : List ℕ). a ++ b) (done .1 .text-left) (done .1 .tag-left) ∙ take-append-drop (length P) E in
-    let asks : asked s N A C T' ≡ 0 = ap₂ (λ (i j : ℕ). refusal (s .values .m) (length N) (length A) j i) tag-long text-long ∙ done .0 in
+    let asks : asked s N A C T' ≡ 0 = ap₂ (λ (i j : ℕ). refusal (s .values .m) (s .values .rounds) (length N) (length A) j i) tag-long text-long ∙ done .0 in
     let valid : decryption K N A C T' ≡ VALID P =
     ap₂ (λ (i : ℕ) (S : List ℕ). OCB-DECRYPT K i N A S) tag-long whole ∙ decrypt-encrypt cipher t N A (sizes .tag-size .to) first P P-bytes in
     let left : Leaves (verdict (VALID P) (inputs K N A C T') C T') q P' T'' =
@@ -202,9 +204,8 @@ seal-opens s h N A P T N-bytes P-bytes {r} {C} {T'} L e {q} {P'} {T''} M =
 -- a state made from a key holds bytes, so that what seal wrote under it opens too
 pub made-holds : {k : List ℕ} {m : ℕ} {u : SetUp} → MadeFrom k m u → HoldsBytes (u .state)
 made-holds {k} {m} {u} made =
-    let w : List ℕ = keyExpansion keyWords aesRounds k in
-    let w-bytes : Bytes w = expansion-bytes keyWords aesRounds k (made .key-bytes) in
-    subst⁻¹ HoldsBytes (made-state made) (state-holds-bytes w m w-bytes (made-places made))
+    subst⁻¹ HoldsBytes (made-state made)
+    (state-holds-bytes (roundKeysOf k) (roundsFor (length k)) m (round-keys-bytes k (made .key-bytes)) (made-sizes made .1 .to))
 
 pub made-seal-opens : {k : List ℕ} {m : ℕ} {u : SetUp} → MadeFrom k m u → (N A P T : List ℕ) → Bytes N → Bytes P
     → {r : Answer} {C T' : List ℕ} → Leaves (sealed (u .state) N A P T) r C T' → r .number ≡ 0

@@ -6,7 +6,7 @@ use mathlib.Core.List.{List, _++_}
 use Prim.Native.Nat.{ℕ, zero, suc}
 use lib.ListN.{length, take, drop}
 use lib.Seq.{take-at, drop-at}
-use Rattle.sizes.specs.Sizes.{aesRounds}
+use Rattle.sizes.specs.Sizes.{Rounds}
 use Rattle.standards.specs.Strings.{zeros, Bytes, Block}
 use Rattle.standards.specs.Rfc7253.{Key, Plaintext, Offset-0, sealBlock, openBlock, text, endOffset, sealSum, openSum, Tag, same, validIf, OCB-ENCRYPT, OCB-DECRYPT}
 use Rattle.standards.specs.InBytes.{initialOffset}
@@ -87,7 +87,7 @@ by-number {n} {k} o S T e h = subst (λ (i : ℕ). Leaves (unless i (untouched S
 pub by-none : {n k : ℕ} {o : Outcome} {r : Answer} {S' T' : List ℕ} (refused : ℕ → Outcome) → k ≡ n → k ≡ 0 → Leaves o r S' T' → Leaves (unless n refused o) r S' T'
 by-none {o = o} {r} {S'} {T'} refused e z L = subst (λ (i : ℕ). Leaves (unless i refused o) r S' T') (sym z ∙ e) L
 
-module _ (s : State) (N A S T : List ℕ) {k : ℕ} (asked : k ≡ refusal (s .values .m) (length N) (length A) (length S) (length T)) where
+module _ (s : State) (N A S T : List ℕ) {k : ℕ} (asked : k ≡ refusal (s .values .m) (s .values .rounds) (length N) (length A) (length S) (length T)) where
   pub seal-refused : (k ≡ 0 → ⊥) → Leaves (sealed s N A S T) (record { number = k; calls = 0 }) S T
   unfolding sealed
   seal-refused h = by-number (encrypted (held s) N A S T) S T asked h
@@ -97,22 +97,22 @@ module _ (s : State) (N A S T : List ℕ) {k : ℕ} (asked : k ≡ refusal (s .v
   open-refused h = by-number (decrypted (held s) N A S T) S T asked h
 
   module _ (none : k ≡ 0) where
-    pub sizes : InRange (s .values .m) (length N) (length A) (length S) (length T)
-    sizes = in-range (s .values .m) (length N) (length A) (length S) (length T) (sym asked ∙ none)
+    pub sizes : Rounds (s .values .rounds) × InRange (s .values .m) (length N) (length A) (length S) (length T)
+    sizes = in-range (s .values .m) (s .values .rounds) (length N) (length A) (length S) (length T) (sym asked ∙ none)
 
     module _ (key-bytes : Bytes (s .«round_keys»)) (N-bytes : Bytes N) {calls : ℕ} (count : calls ≡ count (length A) (length S)) where
       pub seal-done : {C T' : List ℕ} → Encrypted (held s) N A S T C T' → length C ≡ length S → Leaves (sealed s N A S T) (record { number = 0; calls = calls }) C T'
       unfolding sealed
       seal-done E long =
           by-none (sealRefused S T) asked none
-          (seal-leaves (held s) (λ b. enc-block aesRounds (s .«round_keys») b key-bytes) N A S T sizes N-bytes (record { number = 0; calls = calls }) E long refl count)
+          (seal-leaves (held s) (λ b. enc-block (s .values .rounds) (s .«round_keys») b key-bytes) N A S T (sizes .1) N-bytes (record { number = 0; calls = calls }) E long refl count)
 
       opened-by : {P S' : List ℕ} {valid : Bool} {n : ℕ} → Decrypted (held s) N A S T P valid
           → Leaves (verdict (validIf valid P) calls S T) (record { number = n; calls = calls }) S' T → Leaves (opened s N A S T) (record { number = n; calls = calls }) S' T
       unfolding opened
       opened-by {n} D L =
           by-none (openRefused S T) asked none
-          (open-leaves (held s) (λ b. enc-block aesRounds (s .«round_keys») b key-bytes) N A S T sizes N-bytes (record { number = n; calls = calls }) D count L)
+          (open-leaves (held s) (λ b. enc-block (s .values .rounds) (s .«round_keys») b key-bytes) N A S T (sizes .1) N-bytes (record { number = n; calls = calls }) D count L)
 
       pub open-done : {P : List ℕ} {valid : Bool} → Decrypted (held s) N A S T P valid → valid ≡ true → Leaves (opened s N A S T) (record { number = 0; calls = calls }) P T
       open-done {P} D e =

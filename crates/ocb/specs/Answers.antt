@@ -3,10 +3,10 @@ use mathlib.Core.Path.{_≡_}
 use mathlib.Core.List.{List, _++_}
 use Prim.Native.Nat.{ℕ, zero, suc}
 use lib.ListN.{length, take, drop}
-use Rattle.sizes.specs.Sizes.{keyWords, aesRounds, roundKeyBytes, tableBytes}
+use Rattle.sizes.specs.Sizes.{roundsFor, roundKeyBytes, tableBytes}
 use Rattle.standards.specs.Strings.{zeros}
-use Rattle.standards.specs.Fips197.{keyExpansion}
 use Rattle.standards.specs.Rfc7253.{Key, Plaintext, VALID, INVALID, OCB-ENCRYPT, OCB-ENCRYPT-inputs, OCB-DECRYPT, OCB-DECRYPT-inputs}
+use Rattle.aes.specs.Schedule.{roundKeysOf}
 use Rattle.ocb_numbers.specs.Numbers.{setUpNumber, refusal}
 use Rattle.ocb_variables.specs.declared.State.{State}
 use Rattle.ocb_variables.specs.Held.{held}
@@ -16,12 +16,12 @@ use Rattle.ocb.specs.declared.Answer.{Answer}
 
 -- ---- set_up
 
--- zeros, and m = 0, which seal and open answer with 2
+-- zeros: no rounds and no places, which seal and open answer with 2
 unfoldable pub zeroState : State
 zeroState = record {
   «round_keys» = zeros roundKeyBytes;
   table = zeros tableBytes;
-  values = record { m = 0; star = zeros 16; dollar = zeros 16 };
+  values = record { rounds = 0; m = 0; star = zeros 16; dollar = zeros 16 };
 }
 
 abbrev pub madeUnless : ℕ → State → SetUp
@@ -29,7 +29,7 @@ madeUnless zero state = record { number = 0; state = state }
 madeUnless (suc n) state = record { number = suc n; state = zeroState }
 
 unfoldable pub setUp : List ℕ → ℕ → SetUp
-setUp key m = madeUnless (setUpNumber (length key) m) (stateOf (keyExpansion keyWords aesRounds key) m)
+setUp key m = madeUnless (setUpNumber (length key) m) (stateOf (roundKeysOf key) (roundsFor (length key)) m)
 
 -- ---- seal and open: the number, the count of cipher calls, and the text and the tag as they stand afterwards
 
@@ -73,10 +73,10 @@ abbrev pub decrypted : Key → List ℕ → List ℕ → List ℕ → List ℕ �
 decrypted K N A C T = verdict (OCB-DECRYPT K (length T) N A (C ++ T)) (length (OCB-DECRYPT-inputs K (length T) N A (C ++ T))) C T
 
 unfoldable pub sealed : State → List ℕ → List ℕ → List ℕ → List ℕ → Outcome
-sealed s N A P T = unless (refusal (s .values .m) (length N) (length A) (length P) (length T)) (sealRefused P T) (encrypted (held s) N A P T)
+sealed s N A P T = unless (refusal (s .values .m) (s .values .rounds) (length N) (length A) (length P) (length T)) (sealRefused P T) (encrypted (held s) N A P T)
 
 unfoldable pub opened : State → List ℕ → List ℕ → List ℕ → List ℕ → Outcome
-opened s N A C T = unless (refusal (s .values .m) (length N) (length A) (length C) (length T)) (openRefused C T) (decrypted (held s) N A C T)
+opened s N A C T = unless (refusal (s .values .m) (s .values .rounds) (length N) (length A) (length C) (length T)) (openRefused C T) (decrypted (held s) N A C T)
 
 -- THE PROMISE: the answer r, and the text and the tag that are left, are the outcome's
 pub record Leaves (o : Outcome) (r : Answer) (text tag : List ℕ) : Type 0 where

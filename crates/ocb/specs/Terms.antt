@@ -1,11 +1,11 @@
 -- The words in which the demands are said (proofs/Demands.antt), over RFC 7253 and FIPS 197 alone.
 use mathlib.Core.Path.{_≡_}
 use mathlib.Core.List.{List, _++_}
-use Prim.Native.Nat.{ℕ}
+use Prim.Native.Nat.{ℕ, _/_}
 use lib.ListN.{length}
 use Rattle.standards.specs.Strings.{zeros, Bytes}
 use Rattle.standards.specs.Rfc7253.{Plaintext, VALID, INVALID, OCB-ENCRYPT}
-use Rattle.standards.specs.AesOcb.{AES-128}
+use Rattle.standards.specs.AesOcb.{AES}
 use Rattle.ocb_variables.specs.declared.State.{State}
 use Rattle.ocb.specs.declared.SetUp.{SetUp}
 use Rattle.ocb.specs.declared.Answer.{Answer}
@@ -17,11 +17,11 @@ pub record MadeFrom (k : List ℕ) (m : ℕ) (u : SetUp) : Type 0 where
   pub accepted : u .number ≡ 0
   pub key-bytes : Bytes k
 
--- P is a plaintext of bytes that RFC 7253 over AES-128 with the key k encrypts, under the nonce N, the associated data A and a tag as long as T,
+-- P is a plaintext of bytes that RFC 7253 over AES with the key k, of length k / 4 words, encrypts, under the nonce N, the associated data A and a tag as long as T,
 -- to just the ciphertext C and the tag T
 pub record Encrypts (k N A P C T : List ℕ) : Type 0 where
   pub plain-bytes : Bytes P
-  pub gives : OCB-ENCRYPT (AES-128 k) (length T) N A P ≡ C ++ T
+  pub gives : OCB-ENCRYPT (AES (length k / 4) k) (length T) N A P ≡ C ++ T
 
 -- what OCB-DECRYPT's verdict on a text S tells of the answer r and of what is left of S
 abbrev pub Told : Plaintext → List ℕ → Answer → List ℕ → Type 0

@@ -1,4 +1,4 @@
-// OCB3 (RFC 7253) over AES-128 (FIPS 197): the entry points. Every input is answered. What each number leaves stands in specs/Answers.antt,
+// OCB3 (RFC 7253) over AES (FIPS 197): the entry points. Every input is answered. What each number leaves stands in specs/Answers.antt,
 // and what follows from it for states made from a key in proofs/Demands.antt.
 use ocb_variables::KeyValues;
 use ocb_variables::State;
@@ -8,6 +8,7 @@ use sizes::TABLE_BYTES;
 use sizes::Table;
 ghost use mathlib.Core.Path.{_≡_};
 ghost use lib.ListN.{length};
+ghost use Rattle.sizes.specs.Sizes.{Rounds};
 ghost use Rattle.ocb_numbers.specs.Numbers.{InRange};
 ghost use Rattle.ocb_variables.specs.Held.{lentKey};
 ghost use Rattle.ocb.specs.Answers.{zeroState, setUp, sealed, opened, Leaves};
@@ -33,6 +34,7 @@ fn zero_state() -> State
     let table = [0u8; TABLE_BYTES];
     let block = [0u8; 16];
     let values = KeyValues {
+        rounds: 0,
         star: block,
         dollar: block,
         m: 0,
@@ -44,7 +46,7 @@ fn zero_state() -> State
     }
 }
 
-// The state of a key of 16 bytes, with m places for L values, 1 to 26.
+// The state of a key of 16, 24 or 32 bytes, with m places for L values, 1 to 26.
 pub fn set_up(key: &[u8], m: usize) -> SetUp
     ensures { λ r. ⌜ r ≡ setUp (now (key .entry)) m ⌝ }
 {
@@ -56,9 +58,9 @@ pub fn set_up(key: &[u8], m: usize) -> SetUp
             state: zeros,
         };
     }
-    let k = block::load(key, 0);
     let tables = aes::encipher_tables();
-    let state = ocb_variables::key_dependent_variables(&tables, aes::expand_key(&k), m);
+    let rounds = aes::rounds_for(key.len());
+    let state = ocb_variables::key_dependent_variables(&tables, aes::expand_key(key), rounds, m);
     SetUp {
         number: 0,
         state: state,
@@ -75,13 +77,13 @@ fn encrypt(
     text: &mut [u8],
     tag: &mut [u8],
 )
-    requires { ⌜ InRange (v .m) (length (now nonce)) (length (now ad)) (length (now text)) (length (now tag)) ⌝ }
+    requires { ⌜ (Rounds (v .rounds)) × (InRange (v .m) (length (now nonce)) (length (now ad)) (length (now text)) (length (now tag))) ⌝ }
     ensures { λ _. ⌜
         Encrypted (lentKey (now (rk .entry)) (now (table .entry)) v)
         (now (nonce .entry)) (now (ad .entry)) (now (text .entry)) (now (tag .entry)) (now (text .exit)) (now (tag .exit)) ⌝ }
 {
     let tables = aes::encipher_tables();
-    let offset = ocb_variables::initial_offset(&tables, rk, nonce, tag.len());
+    let offset = ocb_variables::initial_offset(&tables, rk, v.rounds, nonce, tag.len());
     let run = ocb_walk::text::encrypt_text(&tables, rk, table, v, offset, text);
     let computed = ocb_walk::tag::compute_tag(&tables, rk, table, v, run, ad);
     ocb_walk::tag::write_tag(computed, tag);
@@ -97,14 +99,14 @@ fn decrypt(
     text: &mut [u8],
     tag: &[u8],
 ) -> bool
-    requires { ⌜ InRange (v .m) (length (now nonce)) (length (now ad)) (length (now text)) (length (now tag)) ⌝ }
+    requires { ⌜ (Rounds (v .rounds)) × (InRange (v .m) (length (now nonce)) (length (now ad)) (length (now text)) (length (now tag))) ⌝ }
     ensures { λ valid. ⌜
         Decrypted (lentKey (now (rk .entry)) (now (table .entry)) v)
         (now (nonce .entry)) (now (ad .entry)) (now (text .entry)) (now (tag .entry)) (now (text .exit)) valid ⌝ }
 {
     let forward = aes::encipher_tables();
     let backward = aes::decipher_tables();
-    let offset = ocb_variables::initial_offset(&forward, rk, nonce, tag.len());
+    let offset = ocb_variables::initial_offset(&forward, rk, v.rounds, nonce, tag.len());
     let run = ocb_walk::text::decrypt_text(&forward, &backward, rk, table, v, offset, text);
     let computed = ocb_walk::tag::compute_tag(&forward, rk, table, v, run, ad);
     ocb_walk::tag::tags_equal(computed, tag)
@@ -117,7 +119,7 @@ pub fn seal(s: State, nonce: &[u8], ad: &[u8], text: &mut [u8], tag: &mut [u8]) 
         r (now (text .exit)) (now (tag .exit)) ⌝ }
 {
     let v = s.values;
-    let number = ocb_numbers::refuse(v.m, nonce.len(), ad.len(), text.len(), tag.len());
+    let number = ocb_numbers::refuse(v.m, v.rounds, nonce.len(), ad.len(), text.len(), tag.len());
     if number != 0 {
         return Answer {
             number: number,
@@ -141,7 +143,7 @@ pub fn open(s: State, nonce: &[u8], ad: &[u8], text: &mut [u8], tag: &[u8]) -> A
         r (now (text .exit)) (now (tag .entry)) ⌝ }
 {
     let v = s.values;
-    let number = ocb_numbers::refuse(v.m, nonce.len(), ad.len(), text.len(), tag.len());
+    let number = ocb_numbers::refuse(v.m, v.rounds, nonce.len(), ad.len(), text.len(), tag.len());
     if number != 0 {
         return Answer {
             number: number,

@@ -8,10 +8,11 @@ use native.Mathlib.Omega.{arith}
 use borrow.Author.Tests.{eqb-true, not-false, eq-eqb, ne-eqb}
 use lib.Dec.{eqb, lit<, lit≤}
 use lib.ListN.{length}
-use Rattle.sizes.specs.Sizes.{keyWords, keyBytes, aesRounds, places}
+use Rattle.sizes.specs.Sizes.{roundsFor, KeyLength, places}
+use Rattle.sizes.proofs.KeyLaws.{rounds-for, rounds-within}
 use Rattle.standards.specs.Strings.{Bytes}
-use Rattle.standards.specs.Fips197.{keyExpansion}
-use Rattle.aes.proofs.Expansion.{expansion-bytes, expansion-length}
+use Rattle.aes.specs.Schedule.{roundKeysOf}
+use Rattle.aes.proofs.Expansion.{round-keys-bytes, round-keys-length}
 use Rattle.ocb_variables.specs.declared.State.{State}
 use Rattle.ocb_variables.specs.State.{stateOf}
 use Rattle.ocb_variables.proofs.KeyLaws.{state-sized}
@@ -74,15 +75,16 @@ module _ {n : ℕ} (B : List ℕ) (e : n ≡ sizeNumber B) where
 
 refused-sizes : Sizes zeroState
 unfolding zeroState
-refused-sizes = record { keys = refl; star = refl; dollar = refl; places = lit< tt; table = refl }
+refused-sizes = record { keys = refl; star = refl; dollar = refl; rounds = lit< tt; places = lit< tt; table = refl }
 
-made-sizes : (key : List ℕ) (m : ℕ) → Bytes key → length key ≡ keyBytes → m ≤ places → Sizes (stateOf (keyExpansion keyWords aesRounds key) m)
+made-sizes : (key : List ℕ) (m : ℕ) → Bytes key → KeyLength (length key) → m ≤ places → Sizes (stateOf (roundKeysOf key) (roundsFor (length key)) m)
 unfolding stateOf
 made-sizes key m bytes h hm =
-    let w : List ℕ = keyExpansion keyWords aesRounds key in
-    let made = state-sized w m (expansion-bytes keyWords aesRounds key bytes) hm in
+    let made = state-sized (roundKeysOf key) (roundsFor (length key)) m (round-keys-bytes key bytes) hm in
+    let within = rounds-within (rounds-for h) in
     record {
-      keys = expansion-length keyWords aesRounds key h (lit≤ tt);
+      keys = round-keys-length key h;
+      rounds = omega arith;
       star = made .star .size;
       dollar = made .dollar .size;
       places = omega arith;
@@ -93,7 +95,7 @@ state-sizes : (key : List ℕ) (m : ℕ) → Bytes key → Sizes (setUp key m .s
 unfolding setUp
 state-sizes key m bytes = go (setUpNumber (length key) m) refl
   where
-    go : (n : ℕ) → setUpNumber (length key) m ≡ n → Sizes (madeUnless n (stateOf (keyExpansion keyWords aesRounds key) m) .state)
+    go : (n : ℕ) → setUpNumber (length key) m ≡ n → Sizes (madeUnless n (stateOf (roundKeysOf key) (roundsFor (length key)) m) .state)
     go zero e = let sizes = set-up-sizes (length key) m e in made-sizes key m bytes (sizes .0) (sizes .1 .to)
     go (suc n) e = refused-sizes
 

@@ -1,4 +1,4 @@
-// OCB3 over AES-128 for programs in C and Rust: exported functions over numbers and byte slices. A slice is passed as its address and then
+// OCB3 over AES for programs in C and Rust: exported functions over numbers and byte slices. A slice is passed as its address and then
 // its length. The state of a key lives in a buffer that the caller lends; specs/Buffer.antt says how it lies there. include/ocb.h is the
 // same for a reader of C.
 use ocb_variables::KeyValues;
@@ -13,7 +13,9 @@ ghost use Rattle.ocb_c.specs.Lent.{sizeNumber, setUpIn, Kept, sealedIn, 
 
 // ---- A state in a buffer
 
-const STAR_AT: usize = ROUND_KEY_BYTES;
+const ROUNDS_AT: usize = ROUND_KEY_BYTES;
+
+const STAR_AT: usize = ROUNDS_AT + 8;
 
 const DOLLAR_AT: usize = STAR_AT + 16;
 
@@ -29,13 +31,15 @@ fn decode(buffer: &[u8]) -> State
     ensures { λ r. ⌜ r ≡ decoded (now (buffer .entry)) ⌝ }
 {
     let mut round_keys = [0u8; ROUND_KEY_BYTES];
-    bytes::copy(&buffer[0..STAR_AT], &mut round_keys);
+    bytes::copy(&buffer[0..ROUNDS_AT], &mut round_keys);
+    let rounds = block::load_be64(buffer, ROUNDS_AT) as usize;
     let star = block::load(buffer, STAR_AT);
     let dollar = block::load(buffer, DOLLAR_AT);
     let m = block::load_be64(buffer, M_AT) as usize;
     let mut table = [0u8; TABLE_BYTES];
     bytes::copy(&buffer[TABLE_AT..STATE_SIZE], &mut table);
     let values = KeyValues {
+        rounds: rounds,
         star: star,
         dollar: dollar,
         m: m,
@@ -53,12 +57,14 @@ fn encode(s: State, buffer: &mut [u8])
     ensures { λ _. ⌜ now (buffer .exit) ≡ encoded s ⌝ }
 {
     let values = s.values;
+    let rounds = values.rounds as u64;
     let star = values.star;
     let dollar = values.dollar;
     let m = values.m as u64;
     let round_keys = s.round_keys;
     let table = s.table;
     block::copy_at(buffer, 0, &round_keys);
+    block::store_be64(&mut buffer[ROUNDS_AT..STAR_AT], rounds);
     block::store(buffer, STAR_AT, star);
     block::store(buffer, DOLLAR_AT, dollar);
     block::store_be64(&mut buffer[M_AT..TABLE_AT], m);
@@ -85,7 +91,7 @@ fn refuse_size(buffer: &[u8]) -> usize
 
 // ---- The entry points
 
-// Makes the state of a key of 16 bytes, with m places for L values, 1 to 26, in the buffer.
+// Makes the state of a key of 16, 24 or 32 bytes, with m places for L values, 1 to 26, in the buffer.
 #[no_mangle]
 pub extern "C" fn ocb_set_up(state: &mut [u8], key: &[u8], m: usize) -> usize
     ensures { λ r. ⌜ Kept (setUpIn (now (state .entry)) (now (key .entry)) m) r (now (state .exit)) ⌝ }

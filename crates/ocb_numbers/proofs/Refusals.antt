@@ -5,10 +5,10 @@ use mathlib.Core.Bool.{Bool, true, false, not, _||_}
 use Prim.Native.Nat.{ℕ, _+_, _*_, _%_, _^_, _≤_}
 use native.Mathlib.Nat.{one-mul, mod-eq-of-lt, lt-of-le-of-lt}
 use native.Mathlib.Omega.{arith}
-use borrow.Author.Tests.{ltb-false, leb-false, eqb-true, not-false, le-ltb, lt-leb}
-use lib.Dec.{eqb, ltb, leb, lit<, lit≤}
+use borrow.Author.Tests.{ltb-false, leb-false, not-false, le-ltb, lt-leb}
+use lib.Dec.{ltb, leb, lit<, lit≤}
 use lib.Pow.{pow-mono}
-use Rattle.sizes.specs.Sizes.{keyBytes, places, nonceLeast, nonceMost, tagLeast, tagMost}
+use Rattle.sizes.specs.Sizes.{keyLengths, roundNumbers, among, KeyLength, Rounds, places, nonceLeast, nonceMost, tagLeast, tagMost}
 use Rattle.ocb_numbers.specs.Numbers.{outside, limit, tooLong, setUpRules, setUpNumber, sizeRules, refusal, Inside, Fits, InRange}
 use Rattle.ocb_numbers.proofs.RuleLaws.{Numbered, first-none, none-applies, first-most}
 
@@ -34,48 +34,54 @@ not-too-long {m} {n} f = lt-leb (limit m) n (f .short)
 
 -- ---- set_up
 
-pub set-up-sizes : (key m : ℕ) → setUpNumber key m ≡ 0 → (key ≡ keyBytes) × Inside 1 places m
+pub set-up-sizes : (key m : ℕ) → setUpNumber key m ≡ 0 → KeyLength key × Inside 1 places m
 unfolding setUpNumber
 set-up-sizes key m e =
     let none = none-applies 2 (setUpRules key m) (lit< tt, lit≤ tt, (lit< tt, lit≤ tt, tt)) e in
-    (eqb-true key keyBytes (not-false (eqb key keyBytes) (none .0)), inside 1 places m (none .1 .0))
+    (record { admitted = not-false (among keyLengths key) (none .0) }, inside 1 places m (none .1 .0))
 
 -- ---- seal and open
 
-numbered : (m nonce ad text tag : ℕ) → Numbered 6 (sizeRules m nonce ad text tag)
-numbered m nonce ad text tag =
-    (lit< tt, lit≤ tt, (lit< tt, lit≤ tt, (lit< tt, lit≤ tt, (lit< tt, lit≤ tt, (lit< tt, lit≤ tt, tt)))))
+numbered : (m rounds nonce ad text tag : ℕ) → Numbered 6 (sizeRules m rounds nonce ad text tag)
+numbered m rounds nonce ad text tag =
+    (lit< tt, lit≤ tt, (lit< tt, lit≤ tt, (lit< tt, lit≤ tt, (lit< tt, lit≤ tt, (lit< tt, lit≤ tt, (lit< tt, lit≤ tt, tt))))))
 
-module _ (m nonce ad text tag : ℕ) where
-  pub in-range : refusal m nonce ad text tag ≡ 0 → InRange m nonce ad text tag
+module _ (m rounds nonce ad text tag : ℕ) where
+  pub in-range : refusal m rounds nonce ad text tag ≡ 0 → Rounds rounds × InRange m nonce ad text tag
   unfolding refusal
   in-range e =
-      let none = none-applies 6 (sizeRules m nonce ad text tag) (numbered m nonce ad text tag) e in
+      let none = none-applies 6 (sizeRules m rounds nonce ad text tag) (numbered m rounds nonce ad text tag) e in
       let filled = inside 1 places m (none .0) in
-      record {
-        filled = filled;
-        nonce-size = inside nonceLeast nonceMost nonce (none .1 .0);
-        tag-size = inside tagLeast tagMost tag (none .1 .1 .0);
-        text-size = fits m text (filled .to) (none .1 .1 .1 .0);
-        ad-size = fits m ad (filled .to) (none .1 .1 .1 .1 .0);
-      }
+      let sizes = none .1 .1 in (
+        record { admitted = not-false (among roundNumbers rounds) (none .1 .0) },
+        record {
+          filled = filled;
+          nonce-size = inside nonceLeast nonceMost nonce (sizes .0);
+          tag-size = inside tagLeast tagMost tag (sizes .1 .0);
+          text-size = fits m text (filled .to) (sizes .1 .1 .0);
+          ad-size = fits m ad (filled .to) (sizes .1 .1 .1 .0);
+        },
+      )
 
   -- and the reverse
-  pub admits : InRange m nonce ad text tag → refusal m nonce ad text tag ≡ 0
+  pub admits : Rounds rounds → InRange m nonce ad text tag → refusal m rounds nonce ad text tag ≡ 0
   unfolding refusal
-  admits a =
-      first-none (sizeRules m nonce ad text tag) (
+  admits r a =
+      first-none (sizeRules m rounds nonce ad text tag) (
         not-outside 1 places m (a .filled),
         (
-          not-outside nonceLeast nonceMost nonce (a .nonce-size),
-          (not-outside tagLeast tagMost tag (a .tag-size), (not-too-long (a .text-size), (not-too-long (a .ad-size), tt))),
+          ap not (r .admitted),
+          (
+            not-outside nonceLeast nonceMost nonce (a .nonce-size),
+            (not-outside tagLeast tagMost tag (a .tag-size), (not-too-long (a .text-size), (not-too-long (a .ad-size), tt))),
+          ),
         ),
       )
 
   -- the largest number of a refusal is 6
-  pub refusal-most : refusal m nonce ad text tag ≤ 6
+  pub refusal-most : refusal m rounds nonce ad text tag ≤ 6
   unfolding refusal
-  refusal-most = first-most 6 (sizeRules m nonce ad text tag) (numbered m nonce ad text tag)
+  refusal-most = first-most 6 (sizeRules m rounds nonce ad text tag) (numbered m rounds nonce ad text tag)
 
 -- the limit as the code shifts it
 pub limit-is : (m : ℕ) → m ≤ places → 1 * 2 ^ (m + 4) % 2 ^ 64 ≡ limit m

@@ -24,6 +24,18 @@ Applies i [] = ⊥
 Applies zero (rule ∷ rules) = rule .applies ≡ true
 Applies (suc i) (rule ∷ rules) = Applies i rules
 
+-- or does not
+abbrev pub Fails : ℕ → List Rule → Type 0
+Fails i [] = ⊥
+Fails zero (rule ∷ rules) = rule .applies ≡ false
+Fails (suc i) (rule ∷ rules) = Fails i rules
+
+-- where none of the first i applies, nor rule i, none of one more does
+pub none-to : (i : ℕ) (rules : List Rule) → NoneBefore i rules → Fails i rules → NoneBefore (suc i) rules
+none-to i [] none this = absurd this
+none-to zero (rule ∷ rules) none this = (this, tt)
+none-to (suc i) (rule ∷ rules) none this = (none .0, none-to i rules (none .1) this)
+
 abbrev pub numberAt : ℕ → List Rule → ℕ
 numberAt i [] = 0
 numberAt zero (rule ∷ rules) = rule .number

@@ -1,10 +1,10 @@
 -- The product's table of numbers: which sizes are refused, by which number, and the count of cipher calls where none is. Sizes stand in the order of a
--- call's parts: nonce, associated data, text, tag.
+-- call's parts: those of the state, nonce, associated data, text, tag.
 use mathlib.Core.Bool.{Bool, cond, not, _||_}
 use mathlib.Core.List.{List, [], _∷_}
 use Prim.Native.Nat.{ℕ, _+_, _/_, _^_, _<_, _≤_}
-use lib.Dec.{eqb, ltb, leb}
-use Rattle.sizes.specs.Sizes.{keyBytes, places, nonceLeast, nonceMost, tagLeast, tagMost}
+use lib.Dec.{ltb, leb}
+use Rattle.sizes.specs.Sizes.{keyLengths, roundNumbers, among, places, nonceLeast, nonceMost, tagLeast, tagMost}
 
 -- ---- The numbers: each with the test that gives it. The first rule that applies gives its number; where none does, the number is 0.
 
@@ -34,19 +34,19 @@ tooLong m n = leb (limit m) n
 
 -- of set_up, by the key's size and m
 abbrev pub setUpRules : ℕ → ℕ → List Rule
-setUpRules key m = (1 if not (eqb key keyBytes)) ∷ (2 if outside 1 places m) ∷ []
+setUpRules key m = (1 if not (among keyLengths key)) ∷ (2 if outside 1 places m) ∷ []
 
 unfoldable pub setUpNumber : ℕ → ℕ → ℕ
 setUpNumber key m = first (setUpRules key m)
 
--- of seal and open alike
-abbrev pub sizeRules : ℕ → ℕ → ℕ → ℕ → ℕ → List Rule
-sizeRules m nonce ad text tag =
-    (2 if outside 1 places m) ∷ (3 if outside nonceLeast nonceMost nonce) ∷ (4 if outside tagLeast tagMost tag)
+-- of seal and open alike, by the state's m and rounds, and by the sizes
+abbrev pub sizeRules : ℕ → ℕ → ℕ → ℕ → ℕ → ℕ → List Rule
+sizeRules m rounds nonce ad text tag =
+    (2 if outside 1 places m) ∷ (2 if not (among roundNumbers rounds)) ∷ (3 if outside nonceLeast nonceMost nonce) ∷ (4 if outside tagLeast tagMost tag)
     ∷ (5 if tooLong m text) ∷ (6 if tooLong m ad) ∷ []
 
-unfoldable pub refusal : ℕ → ℕ → ℕ → ℕ → ℕ → ℕ
-refusal m nonce ad text tag = first (sizeRules m nonce ad text tag)
+unfoldable pub refusal : ℕ → ℕ → ℕ → ℕ → ℕ → ℕ → ℕ
+refusal m rounds nonce ad text tag = first (sizeRules m rounds nonce ad text tag)
 
 -- ---- Sizes that no number refuses
 

@@ -7,7 +7,7 @@ use sizes::Table;
 ghost use mathlib.Core.Path.{_≡_};
 ghost use Prim.Native.Nat.{_<_};
 ghost use lib.ListN.{length};
-ghost use Rattle.sizes.specs.Sizes.{aesRounds};
+ghost use Rattle.sizes.specs.Sizes.{Rounds};
 ghost use Rattle.standards.specs.Strings.{_xor_};
 ghost use Rattle.standards.specs.Rfc7253.{ntz, blockAt, padded};
 ghost use Rattle.aes.specs.Cipher.{enc, dec, EnciphersWith, DeciphersWith};
@@ -23,19 +23,31 @@ pub fn next_offset(table: &Table, m: usize, i: usize, o: Block) -> Block
 }
 
 // C_i = Offset_i xor ENCIPHER(K, P_i xor Offset_i)
-pub fn seal_block(tables: &EncipherTables, rk: &RoundKeys, o: Block, p: Block) -> Block
-    requires { ⌜ EnciphersWith (now tables) ⌝ }
-    ensures { λ r. ⌜ r ≡ o xor enc aesRounds (now (rk .entry)) (p xor o) ⌝ }
+pub fn seal_block(
+    tables: &EncipherTables,
+    rk: &RoundKeys,
+    rounds: usize,
+    o: Block,
+    p: Block,
+) -> Block
+    requires { ⌜ (EnciphersWith (now tables)) × (Rounds rounds) ⌝ }
+    ensures { λ r. ⌜ r ≡ o xor enc rounds (now (rk .entry)) (p xor o) ⌝ }
 {
-    block::xor(o, aes::encipher_with(tables, rk, block::xor(p, o)))
+    block::xor(o, aes::encipher_with(tables, rk, rounds, block::xor(p, o)))
 }
 
 // P_i = Offset_i xor DECIPHER(K, C_i xor Offset_i)
-pub fn open_block(tables: &DecipherTables, rk: &RoundKeys, o: Block, c: Block) -> Block
-    requires { ⌜ DeciphersWith (now tables) ⌝ }
-    ensures { λ r. ⌜ r ≡ o xor dec aesRounds (now (rk .entry)) (c xor o) ⌝ }
+pub fn open_block(
+    tables: &DecipherTables,
+    rk: &RoundKeys,
+    rounds: usize,
+    o: Block,
+    c: Block,
+) -> Block
+    requires { ⌜ (DeciphersWith (now tables)) × (Rounds rounds) ⌝ }
+    ensures { λ r. ⌜ r ≡ o xor dec rounds (now (rk .entry)) (c xor o) ⌝ }
 {
-    block::xor(o, aes::decipher_with(tables, rk, block::xor(c, o)))
+    block::xor(o, aes::decipher_with(tables, rk, rounds, block::xor(c, o)))
 }
 
 // P_* || 1 || zeros(127 - bitlen(P_*))

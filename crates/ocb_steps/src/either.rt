@@ -9,6 +9,7 @@ use sizes::Table;
 ghost use mathlib.Core.Path.{_≡_};
 ghost use Prim.Native.Nat.{_+_};
 ghost use lib.ListN.{length};
+ghost use Rattle.sizes.specs.Sizes.{Rounds};
 ghost use Rattle.ocb_numbers.specs.Numbers.{InTable};
 ghost use Rattle.ocb_variables.specs.Held.{lentKey};
 ghost use Rattle.ocb_steps.specs.Steps.{TablesTo, One, Two};
@@ -22,7 +23,7 @@ pub fn wide(
     pair: &mut [u8],
     r: Run,
 ) -> Run
-    requires { ⌜ (TablesTo opens (now tables)) × (InTable (v .m) (r .done + 1 + 1)) × (length (now pair) ≡ 32) ⌝ }
+    requires { ⌜ (TablesTo opens (now tables)) × (InTable (v .m) (r .done + 1 + 1)) × (length (now pair) ≡ 32) × (Rounds (v .rounds)) ⌝ }
     ensures { λ z. ⌜
         Two opens (lentKey (now (rk .entry)) (now (table .entry)) v)
         (now (pair .entry)) r (now (pair .exit)) z ⌝ }
@@ -42,7 +43,7 @@ pub fn one(
     part: &mut [u8],
     r: Run,
 ) -> Run
-    requires { ⌜ (TablesTo opens (now tables)) × (InTable (v .m) (r .done + 1)) × (length (now part) ≡ 16) ⌝ }
+    requires { ⌜ (TablesTo opens (now tables)) × (InTable (v .m) (r .done + 1)) × (length (now part) ≡ 16) × (Rounds (v .rounds)) ⌝ }
     ensures { λ z. ⌜
         One opens (lentKey (now (rk .entry)) (now (table .entry)) v)
         (now (part .entry)) r (now (part .exit)) z ⌝ }

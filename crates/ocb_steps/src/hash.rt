@@ -9,6 +9,7 @@ use sizes::Table;
 ghost use mathlib.Core.Path.{_≡_};
 ghost use Prim.Native.Nat.{_+_, _<_};
 ghost use lib.ListN.{length};
+ghost use Rattle.sizes.specs.Sizes.{Rounds};
 ghost use Rattle.standards.specs.Rfc7253.{Key, hashBlock, lastHash};
 ghost use Rattle.aes.specs.Cipher.{EnciphersWith};
 ghost use Rattle.ocb_numbers.specs.Numbers.{InTable};
@@ -24,7 +25,7 @@ pub fn hash_one(
     b: Block,
     r: Run,
 ) -> Run
-    requires { ⌜ (EnciphersWith (now tables)) × (InTable (v .m) (r .done + 1)) ⌝ }
+    requires { ⌜ (EnciphersWith (now tables)) × (InTable (v .m) (r .done + 1)) × (Rounds (v .rounds)) ⌝ }
     ensures { λ z. ⌜ (
         let K : Key = lentKey (now (rk .entry)) (now (table .entry)) v in
         z ≡ after (hashBlock K) K b r) ⌝ }
@@ -37,7 +38,7 @@ pub fn hash_one(
     let n = i + 1;
     let o = blocks::next_offset(table, m, n, o0);
     // Sum_i = Sum_{i-1} xor ENCIPHER(K, A_i xor Offset_i)
-    let x = aes::encipher_with(tables, rk, block::xor(b, o));
+    let x = aes::encipher_with(tables, rk, v.rounds, block::xor(b, o));
     let s = block::xor(s0, x);
     Run {
         done: n,
@@ -55,7 +56,7 @@ pub fn hash_last(
     part: &[u8],
     r: Run,
 ) -> Block
-    requires { ⌜ (EnciphersWith (now tables)) × (0 < length (now part)) × (length (now part) < 16) ⌝ }
+    requires { ⌜ (EnciphersWith (now tables)) × (0 < length (now part)) × (length (now part) < 16) × (Rounds (v .rounds)) ⌝ }
     ensures { λ z. ⌜
         z ≡ lastHash (lentKey (now (rk .entry)) (now (table .entry)) v) (r .offset) (r .sum) (now (part .entry)) ⌝ }
 {
@@ -65,6 +66,6 @@ pub fn hash_last(
     // Offset_* = Offset_m xor L_*
     let o = block::xor(o0, star);
     // CipherInput = (A_* || 1 || zeros(127 - bitlen(A_*))) xor Offset_*, Sum = Sum_m xor ENCIPHER(K, CipherInput)
-    let x = aes::encipher_with(tables, rk, block::xor(blocks::pad(part), o));
+    let x = aes::encipher_with(tables, rk, v.rounds, block::xor(blocks::pad(part), o));
     block::xor(s0, x)
 }

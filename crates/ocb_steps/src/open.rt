@@ -10,6 +10,7 @@ ghost use mathlib.Core.Path.{_≡_};
 ghost use mathlib.Core.Bool.{true};
 ghost use Prim.Native.Nat.{_+_, _<_};
 ghost use lib.ListN.{length};
+ghost use Rattle.sizes.specs.Sizes.{Rounds};
 ghost use Rattle.standards.specs.Rfc7253.{Key, lastText};
 ghost use Rattle.aes.specs.Cipher.{EnciphersWith, DeciphersWith};
 ghost use Rattle.ocb_numbers.specs.Numbers.{InTable};
@@ -25,7 +26,7 @@ pub fn wide_decrypt(
     pair: &mut [u8],
     r: Run,
 ) -> Run
-    requires { ⌜ (DeciphersWith (now tables)) × (InTable (v .m) (r .done + 1 + 1)) × (length (now pair) ≡ 32) ⌝ }
+    requires { ⌜ (DeciphersWith (now tables)) × (InTable (v .m) (r .done + 1 + 1)) × (length (now pair) ≡ 32) × (Rounds (v .rounds)) ⌝ }
     ensures { λ z. ⌜
         Two true (lentKey (now (rk .entry)) (now (table .entry)) v)
         (now (pair .entry)) r (now (pair .exit)) z ⌝ }
@@ -42,8 +43,8 @@ pub fn wide_decrypt(
     let o1 = blocks::next_offset(table, m, n1, o0);
     let o2 = blocks::next_offset(table, m, n2, o1);
     // P_i = Offset_i xor DECIPHER(K, C_i xor Offset_i)
-    let p1 = blocks::open_block(tables, rk, o1, c1);
-    let p2 = blocks::open_block(tables, rk, o2, c2);
+    let p1 = blocks::open_block(tables, rk, v.rounds, o1, c1);
+    let p2 = blocks::open_block(tables, rk, v.rounds, o2, c2);
     // Checksum_i = Checksum_{i-1} xor P_i
     let s1 = block::xor(s0, p1);
     let s2 = block::xor(s1, p2);
@@ -65,7 +66,7 @@ pub fn decrypt_one(
     one: &mut [u8],
     r: Run,
 ) -> Run
-    requires { ⌜ (DeciphersWith (now tables)) × (InTable (v .m) (r .done + 1)) × (length (now one) ≡ 16) ⌝ }
+    requires { ⌜ (DeciphersWith (now tables)) × (InTable (v .m) (r .done + 1)) × (length (now one) ≡ 16) × (Rounds (v .rounds)) ⌝ }
     ensures { λ z. ⌜
         One true (lentKey (now (rk .entry)) (now (table .entry)) v)
         (now (one .entry)) r (now (one .exit)) z ⌝ }
@@ -79,7 +80,7 @@ pub fn decrypt_one(
     let n = i + 1;
     let o = blocks::next_offset(table, m, n, o0);
     // P_i = Offset_i xor DECIPHER(K, C_i xor Offset_i)
-    let p = blocks::open_block(tables, rk, o, c);
+    let p = blocks::open_block(tables, rk, v.rounds, o, c);
     // Checksum_i = Checksum_{i-1} xor P_i
     let s = block::xor(s0, p);
     block::store(one, 0, p);
@@ -99,7 +100,7 @@ pub fn decrypt_last(
     part: &mut [u8],
     r: Run,
 ) -> Run
-    requires { ⌜ (EnciphersWith (now tables)) × (length (now part) < 16) ⌝ }
+    requires { ⌜ (EnciphersWith (now tables)) × (length (now part) < 16) × (Rounds (v .rounds)) ⌝ }
     ensures { λ z. ⌜ (
         let K : Key = lentKey (now (rk .entry)) (now (table .entry)) v in
         Last K (lastText K (r .offset) (now (part .entry))) (now (part .entry)) r (now (part .exit)) z) ⌝ }
@@ -111,7 +112,7 @@ pub fn decrypt_last(
     // Offset_* = Offset_m xor L_*
     let o = block::xor(o0, star);
     // P_* = C_* xor Pad[1..bitlen(C_*)], Pad = ENCIPHER(K, Offset_*)
-    block::inplace_xor(part, aes::encipher_with(tables, rk, o));
+    block::inplace_xor(part, aes::encipher_with(tables, rk, v.rounds, o));
     // Checksum_* = Checksum_m xor (P_* || 1 || zeros(127 - bitlen(P_*)))
     let s = block::xor(s0, blocks::pad(part));
     Run {

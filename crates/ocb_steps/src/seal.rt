@@ -9,6 +9,7 @@ ghost use mathlib.Core.Path.{_≡_};
 ghost use mathlib.Core.Bool.{false};
 ghost use Prim.Native.Nat.{_+_, _<_};
 ghost use lib.ListN.{length};
+ghost use Rattle.sizes.specs.Sizes.{Rounds};
 ghost use Rattle.aes.specs.Cipher.{EnciphersWith};
 ghost use Rattle.ocb_numbers.specs.Numbers.{InTable};
 ghost use Rattle.ocb_variables.specs.Held.{lentKey};
@@ -23,7 +24,7 @@ pub fn wide_encrypt(
     pair: &mut [u8],
     r: Run,
 ) -> Run
-    requires { ⌜ (EnciphersWith (now tables)) × (InTable (v .m) (r .done + 1 + 1)) × (length (now pair) ≡ 32) ⌝ }
+    requires { ⌜ (EnciphersWith (now tables)) × (InTable (v .m) (r .done + 1 + 1)) × (length (now pair) ≡ 32) × (Rounds (v .rounds)) ⌝ }
     ensures { λ z. ⌜
         Two false (lentKey (now (rk .entry)) (now (table .entry)) v)
         (now (pair .entry)) r (now (pair .exit)) z ⌝ }
@@ -40,8 +41,8 @@ pub fn wide_encrypt(
     let o1 = blocks::next_offset(table, m, n1, o0);
     let o2 = blocks::next_offset(table, m, n2, o1);
     // C_i = Offset_i xor ENCIPHER(K, P_i xor Offset_i)
-    let c1 = blocks::seal_block(tables, rk, o1, p1);
-    let c2 = blocks::seal_block(tables, rk, o2, p2);
+    let c1 = blocks::seal_block(tables, rk, v.rounds, o1, p1);
+    let c2 = blocks::seal_block(tables, rk, v.rounds, o2, p2);
     // Checksum_i = Checksum_{i-1} xor P_i
     let s1 = block::xor(s0, p1);
     let s2 = block::xor(s1, p2);
@@ -63,7 +64,7 @@ pub fn encrypt_one(
     one: &mut [u8],
     r: Run,
 ) -> Run
-    requires { ⌜ (EnciphersWith (now tables)) × (InTable (v .m) (r .done + 1)) × (length (now one) ≡ 16) ⌝ }
+    requires { ⌜ (EnciphersWith (now tables)) × (InTable (v .m) (r .done + 1)) × (length (now one) ≡ 16) × (Rounds (v .rounds)) ⌝ }
     ensures { λ z. ⌜
         One false (lentKey (now (rk .entry)) (now (table .entry)) v)
         (now (one .entry)) r (now (one .exit)) z ⌝ }
@@ -77,7 +78,7 @@ pub fn encrypt_one(
     let n = i + 1;
     let o = blocks::next_offset(table, m, n, o0);
     // C_i = Offset_i xor ENCIPHER(K, P_i xor Offset_i)
-    let c = blocks::seal_block(tables, rk, o, p);
+    let c = blocks::seal_block(tables, rk, v.rounds, o, p);
     // Checksum_i = Checksum_{i-1} xor P_i
     let s = block::xor(s0, p);
     block::store(one, 0, c);
@@ -97,7 +98,7 @@ pub fn encrypt_last(
     part: &mut [u8],
     r: Run,
 ) -> Run
-    requires { ⌜ (EnciphersWith (now tables)) × (length (now part) < 16) ⌝ }
+    requires { ⌜ (EnciphersWith (now tables)) × (length (now part) < 16) × (Rounds (v .rounds)) ⌝ }
     ensures { λ z. ⌜
         Last (lentKey (now (rk .entry)) (now (table .entry)) v)
         (now (part .entry)) (now (part .entry)) r (now (part .exit)) z ⌝ }
@@ -111,7 +112,7 @@ pub fn encrypt_last(
     // Offset_* = Offset_m xor L_*
     let o = block::xor(o0, star);
     // C_* = P_* xor Pad[1..bitlen(P_*)], Pad = ENCIPHER(K, Offset_*)
-    block::inplace_xor(part, aes::encipher_with(tables, rk, o));
+    block::inplace_xor(part, aes::encipher_with(tables, rk, v.rounds, o));
     Run {
         done: done,
         offset: o,

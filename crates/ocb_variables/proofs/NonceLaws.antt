@@ -13,8 +13,6 @@ use lib.Seq.{getD-take, getD-drop, length-take-le, take-all, take-at, set-append
 use Rattle.standards.specs.Strings.{_⊕_, _xor_, zeros}
 use Rattle.standards.specs.InBytes.{nonceFront, nonceBlock, bottomOf, topOf, stretchOf, cutOf, initialOffset}
 use Rattle.block.proofs.StringLaws.{xor-length, xor-at}
-use Rattle.sizes.specs.Sizes.{aesRounds}
-use Rattle.aes.specs.Cipher.{enc}
 use Rattle.ocb_variables.specs.declared.NonceVariables.{NonceVariables}
 use Rattle.ocb_variables.specs.Nonce.{variablesOf}
 
@@ -106,21 +104,21 @@ module _ (k : List ℕ) (hk : length k ≡ 16) where
 
 -- ---- all of them, as the code makes them one after the other
 
-pub variables-made : {b k s : List ℕ} (rk : List ℕ) (t : ℕ) (N : List ℕ) → b ≡ nonceBlock t N → getD b 15 0 < 256
-    → k ≡ enc aesRounds rk (set b 15 (bitAnd (getD b 15 0) 192)) → s ≡ stretchOf k
-    → _≡_ {A = NonceVariables} (record { bottom = bitAnd (getD b 15 0) 63; stretch = s }) (variablesOf rk t N)
+pub variables-made : {b k s : List ℕ} (E : List ℕ → List ℕ) (t : ℕ) (N : List ℕ) → b ≡ nonceBlock t N → getD b 15 0 < 256
+    → k ≡ E (set b 15 (bitAnd (getD b 15 0) 192)) → s ≡ stretchOf k
+    → _≡_ {A = NonceVariables} (record { bottom = bitAnd (getD b 15 0) 63; stretch = s }) (variablesOf E t N)
 unfolding variablesOf
-variables-made {b} {k} {s} rk t N eb hb ek es =
+variables-made {b} {k} {s} E t N eb hb ek es =
     let bottom : bitAnd (getD b 15 0) 63 ≡ bottomOf (nonceBlock t N) = bottom-mask b ∙ ap bottomOf eb in
-    let stretch : s ≡ stretchOf (enc aesRounds rk (topOf (nonceBlock t N))) =
-    es ∙ ap stretchOf (ek ∙ ap (enc aesRounds rk) (top-mask b hb ∙ ap topOf eb)) in
+    let stretch : s ≡ stretchOf (E (topOf (nonceBlock t N))) =
+    es ∙ ap stretchOf (ek ∙ ap E (top-mask b hb ∙ ap topOf eb)) in
     cc
 
-pub bottom-below : {v : NonceVariables} (rk : List ℕ) (t : ℕ) (N : List ℕ) → v ≡ variablesOf rk t N → v .bottom < 64
+pub bottom-below : {v : NonceVariables} (E : List ℕ → List ℕ) (t : ℕ) (N : List ℕ) → v ≡ variablesOf E t N → v .bottom < 64
 unfolding variablesOf bottomOf
-bottom-below {v} rk t N e = subst (λ (w : NonceVariables). w .bottom < 64) (sym e) (mod-lt (getD (nonceBlock t N) 15 0) (lit< tt))
+bottom-below {v} E t N e = subst (λ (w : NonceVariables). w .bottom < 64) (sym e) (mod-lt (getD (nonceBlock t N) 15 0) (lit< tt))
 
-pub offset-made : {v : NonceVariables} {r : List ℕ} (rk : List ℕ) (t : ℕ) (N : List ℕ)
-    → v ≡ variablesOf rk t N → r ≡ cutOf (v .stretch) (v .bottom) → r ≡ initialOffset (enc aesRounds rk) t N
+pub offset-made : {v : NonceVariables} {r : List ℕ} (E : List ℕ → List ℕ) (t : ℕ) (N : List ℕ)
+    → v ≡ variablesOf E t N → r ≡ cutOf (v .stretch) (v .bottom) → r ≡ initialOffset E t N
 unfolding variablesOf initialOffset
-offset-made {v} rk t N ev er = er ∙ ap (λ (w : NonceVariables). cutOf (w .stretch) (w .bottom)) ev
+offset-made {v} E t N ev er = er ∙ ap (λ (w : NonceVariables). cutOf (w .stretch) (w .bottom)) ev

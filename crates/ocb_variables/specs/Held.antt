@@ -1,7 +1,6 @@
 -- What a state holds, as the procedures of RFC 7253 take it from a key: the cipher under its round keys, and the L values that stand in it.
 use mathlib.Core.List.{List}
 use Prim.Native.Nat.{ℕ}
-use Rattle.sizes.specs.Sizes.{aesRounds}
 use Rattle.standards.specs.Rfc7253.{Key, blockAt}
 use Rattle.aes.specs.Cipher.{enc, dec}
 use Rattle.ocb_variables.specs.declared.KeyValues.{KeyValues}
@@ -10,8 +9,8 @@ use Rattle.ocb_variables.specs.declared.State.{State}
 -- the key that lent parts are: round keys rk, a table whose block i is L_i, and the values v
 abbrev pub lentKey : List ℕ → List ℕ → KeyValues → Key
 lentKey rk table v = record {
-  ENCIPHER = enc aesRounds rk;
-  DECIPHER = dec aesRounds rk;
+  ENCIPHER = enc (v .rounds) rk;
+  DECIPHER = dec (v .rounds) rk;
   L-* = v .star;
   L-$ = v .dollar;
   L = λ i. blockAt table i;

@@ -1,9 +1,7 @@
--- What depends on the nonce (RFC 7253, section 4.2), under the cipher of round keys rk. t is the tag's length in bytes.
+-- What depends on the nonce (RFC 7253, section 4.2), under the cipher E of a key. t is the tag's length in bytes.
 use mathlib.Core.List.{List}
 use Prim.Native.Nat.{ℕ, _+_, _-_, _*_, _/_, _%_, _^_}
-use Rattle.sizes.specs.Sizes.{aesRounds}
 use Rattle.standards.specs.InBytes.{nonceBlock, bottomOf, topOf, stretchOf}
-use Rattle.aes.specs.Cipher.{enc}
 use Rattle.ocb_numbers.specs.Numbers.{NonceSize, TagSize}
 use Rattle.ocb_variables.specs.declared.NonceVariables.{NonceVariables}
 
@@ -13,10 +11,10 @@ pub record Admitted (n t : ℕ) : Type 0 where
   pub tag-size : TagSize t
 
 -- bottom, and the Stretch of Ktop
-unfoldable pub variablesOf : List ℕ → ℕ → List ℕ → NonceVariables
-variablesOf rk t N = record {
+unfoldable pub variablesOf : (List ℕ → List ℕ) → ℕ → List ℕ → NonceVariables
+variablesOf E t N = record {
   bottom = bottomOf (nonceBlock t N);
-  stretch = stretchOf (enc aesRounds rk (topOf (nonceBlock t N)));
+  stretch = stretchOf (E (topOf (nonceBlock t N)));
 }
 
 -- the 64 bits behind the first `bottom` of two words of 64 bits: the first offset is cut a word at a time

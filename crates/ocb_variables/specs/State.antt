@@ -1,7 +1,7 @@
 -- The state that a key is made into (RFC 7253, section 4.1).
 use mathlib.Core.List.{List, [], _++_}
 use Prim.Native.Nat.{ℕ, zero, suc, _*_, _-_}
-use Rattle.sizes.specs.Sizes.{aesRounds, tableBytes}
+use Rattle.sizes.specs.Sizes.{tableBytes}
 use Rattle.standards.specs.Strings.{zeros}
 use Rattle.standards.specs.Rfc7253.{double, doubled}
 use Rattle.aes.specs.Cipher.{enc}
@@ -16,8 +16,8 @@ rows dollar (suc i) = rows dollar i ++ doubled (suc i) dollar
 unfoldable pub tableOf : List ℕ → ℕ → List ℕ
 tableOf dollar m = rows dollar m ++ zeros (tableBytes - m * 16)
 
--- of round keys rk and m places: L_* is the zero block enciphered, L_$ its double
-unfoldable pub stateOf : List ℕ → ℕ → State
-stateOf rk m =
-    let star : List ℕ = enc aesRounds rk (zeros 16) in
-    record { «round_keys» = rk; table = tableOf (double star) m; values = record { m = m; star = star; dollar = double star } }
+-- of round keys rk, their number of rounds and m places: L_* is the zero block enciphered, L_$ its double
+unfoldable pub stateOf : List ℕ → ℕ → ℕ → State
+stateOf rk rounds m =
+    let star : List ℕ = enc rounds rk (zeros 16) in
+    record { «round_keys» = rk; table = tableOf (double star) m; values = record { rounds = rounds; m = m; star = star; dollar = double star } }

@@ -8,7 +8,7 @@ use sizes::Table;
 ghost use mathlib.Core.Path.{_≡_};
 ghost use Prim.Native.Nat.{_≤_, _<_};
 ghost use lib.ListN.{length};
-ghost use Rattle.sizes.specs.Sizes.{aesRounds, places};
+ghost use Rattle.sizes.specs.Sizes.{Rounds, places};
 ghost use Rattle.standards.specs.InBytes.{nonceBlock, stretchOf, cutOf, initialOffset};
 ghost use Rattle.aes.specs.Cipher.{enc, EnciphersWith};
 ghost use Rattle.ocb_variables.specs.State.{tableOf, stateOf};
@@ -16,8 +16,9 @@ ghost use Rattle.ocb_variables.specs.Nonce.{Admitted, variablesOf, bitsF
 
 // ---- Key-dependent variables
 
-// What goes by value wherever round keys and table are lent: L_*, L_$, and how many places of the table are filled.
+// What goes by value wherever round keys and table are lent: the number of rounds, L_*, L_$, and how many places of the table are filled.
 pub struct KeyValues {
+    pub rounds: usize,
     pub star: Block,
     pub dollar: Block,
     pub m: usize,
@@ -48,15 +49,21 @@ fn l_table(dollar: Block, m: usize) -> Table
 }
 
 // The state of these round keys. L_* is the zero block enciphered, L_$ its double.
-pub fn key_dependent_variables(tables: &EncipherTables, rk: RoundKeys, m: usize) -> State
-    requires { ⌜ (EnciphersWith (now tables)) × (m ≤ places) ⌝ }
-    ensures { λ r. ⌜ r ≡ stateOf rk m ⌝ }
+pub fn key_dependent_variables(
+    tables: &EncipherTables,
+    rk: RoundKeys,
+    rounds: usize,
+    m: usize,
+) -> State
+    requires { ⌜ (EnciphersWith (now tables)) × (Rounds rounds) × (m ≤ places) ⌝ }
+    ensures { λ r. ⌜ r ≡ stateOf rk rounds m ⌝ }
 {
     let zero = [0u8; 16];
-    let star = aes::encipher_with(tables, &rk, zero);
+    let star = aes::encipher_with(tables, &rk, rounds, zero);
     let dollar = block::double(star);
     let table = l_table(dollar, m);
     let values = KeyValues {
+        rounds: rounds,
         star: star,
         dollar: dollar,
         m: m,
@@ -107,17 +114,18 @@ pub struct NonceVariables {
 pub fn nonce_dependent_variables(
     tables: &EncipherTables,
     rk: &RoundKeys,
+    rounds: usize,
     nonce: &[u8],
     t: usize,
 ) -> NonceVariables
-    requires { ⌜ (EnciphersWith (now tables)) × Admitted (length (now nonce)) t ⌝ }
-    ensures { λ r. ⌜ r ≡ variablesOf (now (rk .entry)) t (now (nonce .entry)) ⌝ }
+    requires { ⌜ (EnciphersWith (now tables)) × (Rounds rounds) × (Admitted (length (now nonce)) t) ⌝ }
+    ensures { λ r. ⌜ r ≡ variablesOf (enc rounds (now (rk .entry))) t (now (nonce .entry)) ⌝ }
 {
     let mut top = nonce_block(nonce, t);
     let last = top[15];
     let bottom = (last & 63) as usize;
     top[15] = last & 192;
-    let ktop = aes::encipher_with(tables, rk, top);
+    let ktop = aes::encipher_with(tables, rk, rounds, top);
     let stretch = stretch_of(ktop);
     NonceVariables {
         bottom: bottom,
@@ -152,12 +160,18 @@ fn cut(stretch: [u8; 24], bottom: usize) -> Block
     offset
 }
 
-// Offset_0. Of a key it takes the round keys alone.
-pub fn initial_offset(tables: &EncipherTables, rk: &RoundKeys, nonce: &[u8], t: usize) -> Block
-    requires { ⌜ (EnciphersWith (now tables)) × Admitted (length (now nonce)) t ⌝ }
-    ensures { λ r. ⌜ r ≡ initialOffset (enc aesRounds (now (rk .entry))) t (now (nonce .entry)) ⌝ }
+// Offset_0. Of a key it takes the cipher alone.
+pub fn initial_offset(
+    tables: &EncipherTables,
+    rk: &RoundKeys,
+    rounds: usize,
+    nonce: &[u8],
+    t: usize,
+) -> Block
+    requires { ⌜ (EnciphersWith (now tables)) × (Rounds rounds) × (Admitted (length (now nonce)) t) ⌝ }
+    ensures { λ r. ⌜ r ≡ initialOffset (enc rounds (now (rk .entry))) t (now (nonce .entry)) ⌝ }
 {
-    let v = nonce_dependent_variables(tables, rk, nonce, t);
+    let v = nonce_dependent_variables(tables, rk, rounds, nonce, t);
     let bottom = v.bottom;
     let stretch = v.stretch;
     cut(stretch, bottom)

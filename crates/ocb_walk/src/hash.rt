@@ -7,6 +7,7 @@ use sizes::RoundKeys;
 use sizes::Table;
 ghost use mathlib.Core.Path.{_≡_};
 ghost use lib.ListN.{length};
+ghost use Rattle.sizes.specs.Sizes.{Rounds};
 ghost use Rattle.standards.specs.Rfc7253.{HASH};
 ghost use Rattle.aes.specs.Cipher.{EnciphersWith};
 ghost use Rattle.ocb_numbers.specs.Numbers.{Fits};
@@ -19,7 +20,7 @@ pub fn hash(
     v: KeyValues,
     ad: &[u8],
 ) -> Block
-    requires { ⌜ (EnciphersWith (now tables)) × (Fits (v .m) (length (now ad))) ⌝ }
+    requires { ⌜ (EnciphersWith (now tables)) × (Fits (v .m) (length (now ad))) × (Rounds (v .rounds)) ⌝ }
     ensures { λ z. ⌜ z ≡ HASH (lentKey (now (rk .entry)) (now (table .entry)) v)
         (now (ad .entry)) ⌝ }
 {

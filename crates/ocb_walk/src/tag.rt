@@ -9,6 +9,7 @@ use sizes::Table;
 ghost use mathlib.Core.Path.{_≡_};
 ghost use Prim.Native.Nat.{_≤_};
 ghost use lib.ListN.{length, take};
+ghost use Rattle.sizes.specs.Sizes.{Rounds};
 ghost use Rattle.standards.specs.Rfc7253.{Tag, same};
 ghost use Rattle.aes.specs.Cipher.{EnciphersWith};
 ghost use Rattle.ocb_numbers.specs.Numbers.{Fits};
@@ -23,14 +24,14 @@ pub fn compute_tag(
     r: Run,
     ad: &[u8],
 ) -> Block
-    requires { ⌜ (EnciphersWith (now tables)) × (Fits (v .m) (length (now ad))) ⌝ }
+    requires { ⌜ (EnciphersWith (now tables)) × (Fits (v .m) (length (now ad))) × (Rounds (v .rounds)) ⌝ }
     ensures { λ z. ⌜
         z ≡ Tag (lentKey (now (rk .entry)) (now (table .entry)) v) (r .sum) (r .offset) (now (ad .entry)) ⌝ }
 {
     let o = r.offset;
     let s = r.sum;
     let dollar = v.dollar;
-    let x = aes::encipher_with(tables, rk, block::xor(block::xor(s, o), dollar));
+    let x = aes::encipher_with(tables, rk, v.rounds, block::xor(block::xor(s, o), dollar));
     block::xor(x, hash::hash(tables, rk, table, v, ad))
 }
 

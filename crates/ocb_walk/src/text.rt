@@ -11,6 +11,7 @@ use sizes::Block;
 use sizes::RoundKeys;
 use sizes::Table;
 ghost use lib.ListN.{length};
+ghost use Rattle.sizes.specs.Sizes.{Rounds};
 ghost use Rattle.standards.specs.Rfc7253.{sealBlock, openBlock, sealSum, openSum};
 ghost use Rattle.aes.specs.Cipher.{EnciphersWith, DeciphersWith};
 ghost use Rattle.ocb_numbers.specs.Numbers.{Fits};
@@ -28,7 +29,7 @@ pub fn walk(
     o: Block,
     s: &mut [u8],
 ) -> Run
-    requires { ⌜ (TablesTo opens (now tables)) × (Fits (v .m) (length (now s))) ⌝ }
+    requires { ⌜ (TablesTo opens (now tables)) × (Fits (v .m) (length (now s))) × (Rounds (v .rounds)) ⌝ }
     ensures { λ z. ⌜
         Walked opens (lentKey (now (rk .entry)) (now (table .entry)) v) o (now (s .entry)) (now (s .exit)) z ⌝ }
 {
@@ -63,7 +64,7 @@ pub fn encrypt_text(
     o: Block,
     s: &mut [u8],
 ) -> Run
-    requires { ⌜ (EnciphersWith (now tables)) × (Fits (v .m) (length (now s))) ⌝ }
+    requires { ⌜ (EnciphersWith (now tables)) × (Fits (v .m) (length (now s))) × (Rounds (v .rounds)) ⌝ }
     ensures { λ z. ⌜
         Ended sealBlock sealSum (lentKey (now (rk .entry)) (now (table .entry)) v) o (now (s .entry)) (now (s .exit)) z ⌝ }
 {
@@ -86,7 +87,7 @@ pub fn decrypt_text(
     o: Block,
     s: &mut [u8],
 ) -> Run
-    requires { ⌜ (EnciphersWith (now forward)) × (DeciphersWith (now backward)) × (Fits (v .m) (length (now s))) ⌝ }
+    requires { ⌜ (EnciphersWith (now forward)) × (DeciphersWith (now backward)) × (Fits (v .m) (length (now s))) × (Rounds (v .rounds)) ⌝ }
     ensures { λ z. ⌜
         Ended openBlock openSum (lentKey (now (rk .entry)) (now (table .entry)) v) o (now (s .entry)) (now (s .exit)) z ⌝ }
 {

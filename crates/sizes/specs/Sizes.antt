@@ -1,22 +1,40 @@
 -- The sizes of src/lib.rt, for contracts and proofs, which see the numerals behind the names. What fixes each is said there.
-use Prim.Native.Nat.{ℕ, _+_, _*_}
+use mathlib.Core.Path.{_≡_}
+use mathlib.Core.Bool.{Bool, true, false, _||_}
+use mathlib.Core.List.{List, [], _∷_, map}
+use Prim.Native.Nat.{ℕ, _+_, _*_, _/_}
+use lib.Dec.{eqb}
 
--- ---- AES-128
+-- ---- AES
 
-abbrev pub keyWords : ℕ
-keyWords = 4
+-- THE KEYS: the lengths that are admitted, in bytes
+abbrev pub keyLengths : List ℕ
+keyLengths = 16 ∷ 24 ∷ 32 ∷ []
 
-abbrev pub keyBytes : ℕ
-keyBytes = 4 * keyWords
+-- and the rounds that go with each: one for each word of four bytes, and six more
+abbrev pub roundsFor : ℕ → ℕ
+roundsFor n = n / 4 + 6
 
-abbrev pub aesRounds : ℕ
-aesRounds = 10
+abbrev pub roundNumbers : List ℕ
+roundNumbers = map roundsFor keyLengths
 
-abbrev pub scheduleWords : ℕ
-scheduleWords = 4 * (aesRounds + 1)
+-- n is one of them
+abbrev pub among : List ℕ → ℕ → Bool
+among [] n = false
+among (k ∷ ks) n = eqb n k || among ks n
+
+pub record KeyLength (n : ℕ) : Type 0 where
+  pub admitted : among keyLengths n ≡ true
+
+pub record Rounds (nr : ℕ) : Type 0 where
+  pub admitted : among roundNumbers nr ≡ true
+
+-- the most rounds, and the bytes of their round keys: sixteen for each, and sixteen before the first
+abbrev pub mostRounds : ℕ
+mostRounds = roundsFor 32
 
 abbrev pub roundKeyBytes : ℕ
-roundKeyBytes = 4 * scheduleWords
+roundKeyBytes = 16 * (mostRounds + 1)
 
 -- ---- OCB3
 

@@ -1,19 +1,23 @@
 // Every size and the types made of them, each by one name. specs/Sizes.antt has the same sizes for contracts and proofs.
 
-// ---- AES-128 (FIPS 197, section 5, table 3)
+// ---- AES (FIPS 197, section 5, table 3)
 
-// Nk, the words of a key; a word has four bytes.
-pub const KEY_WORDS: usize = 4;
+// The lengths of a key: 4, 6 or 8 words of four bytes.
+pub const KEY_128: usize = 16;
 
-pub const KEY_BYTES: usize = 4 * KEY_WORDS;
+pub const KEY_192: usize = 24;
 
-// Nr.
-pub const ROUNDS: usize = 10;
+pub const KEY_256: usize = 32;
 
-// The key schedule (5.2): a round key of four words for each round, and one before the first.
-pub const SCHEDULE_WORDS: usize = 4 * (ROUNDS + 1);
+// Nr, the rounds that go with each: one for each word, and six more.
+pub const ROUNDS_128: usize = KEY_128 / 4 + 6;
 
-pub const ROUND_KEY_BYTES: usize = 4 * SCHEDULE_WORDS;
+pub const ROUNDS_192: usize = KEY_192 / 4 + 6;
+
+pub const ROUNDS_256: usize = KEY_256 / 4 + 6;
+
+// The place of the key schedule (5.2): sixteen bytes for each round of the longest key, and sixteen before the first.
+pub const ROUND_KEY_BYTES: usize = 16 * (ROUNDS_256 + 1);
 
 // What the cipher takes and gives (3.4), and RFC 7253's blocks of 128 bits.
 pub type Block = [u8; 16];

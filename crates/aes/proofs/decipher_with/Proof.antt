@@ -1,6 +1,7 @@
--- `aes::decipher_with` meets its contract: ten rounds on the block's state, with the tables that are lent.
+-- `aes::decipher_with` meets its contract: its rounds on the block's state, with the tables that are lent.
 -- Assumes nothing.
 use borrow.Author.Needs.{needs}
+use Rattle.sizes.proofs.KeyLaws.{rounds-within}
 use Rattle.standards.specs.Fips197.{decipher}
 use Rattle.aes.specs.Cipher.Body.{dec-is, deciphers-inv-sbox}
 use Rattle.aes.proofs.decipher_with.Statement.{statement}
@@ -9,7 +10,8 @@ use Rattle.aes.proofs.decipher_with.Tie as tie
 inv-cipher-requires : tie.Need-inv-cipher-requires
 inv-cipher-requires c κs =
     let start = c .before .before in
-    let tables = deciphers-inv-sbox (start .args .tables .now) (start .pre) in
+    let tables = deciphers-inv-sbox (start .args .tables .now) (start .pre .0) in
+    let within = rounds-within (start .pre .1) in
     search needs
 
 returns : tie.Need-returns

@@ -1,6 +1,7 @@
--- `aes::encipher_with` meets its contract: ten rounds on the block's state, with the tables that are lent.
+-- `aes::encipher_with` meets its contract: its rounds on the block's state, with the tables that are lent.
 -- Assumes nothing.
 use borrow.Author.Needs.{needs}
+use Rattle.sizes.proofs.KeyLaws.{rounds-within}
 use Rattle.standards.specs.Fips197.{encipher}
 use Rattle.aes.specs.Cipher.Body.{enc-is, enciphers-sbox}
 use Rattle.aes.proofs.encipher_with.Statement.{statement}
@@ -9,7 +10,8 @@ use Rattle.aes.proofs.encipher_with.Tie as tie
 cipher-requires : tie.Need-cipher-requires
 cipher-requires c κs =
     let start = c .before .before in
-    let tables = enciphers-sbox (start .args .tables .now) (start .pre) in
+    let tables = enciphers-sbox (start .args .tables .now) (start .pre .0) in
+    let within = rounds-within (start .pre .1) in
     search needs
 
 returns : tie.Need-returns

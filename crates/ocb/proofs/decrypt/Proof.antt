@@ -9,7 +9,7 @@ tags-equal-requires : tie.Need-tags-equal-requires
 tags-equal-requires c κs =
     let first = c .before .before .before .before .before .before .before .before in
     let start = first .before .before .before .before .before .before .before .before in
-    start .pre .tag-size .to
+    start .pre .1 .tag-size .to
 
 returns : tie.Need-returns
 returns c =

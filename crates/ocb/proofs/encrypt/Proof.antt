@@ -5,6 +5,12 @@ use Rattle.ocb.proofs.Outcomes.{encrypt-made}
 use Rattle.ocb.proofs.encrypt.Statement.{statement}
 use Rattle.ocb.proofs.encrypt.Tie as tie
 
+write-tag-requires : tie.Need-write-tag-requires
+write-tag-requires c κs =
+    let first = c .before .before .before .before .before .before .before .before in
+    let start = first .before .before .before .before .before .before .before in
+    start .pre .1 .tag-size .to
+
 returns : tie.Need-returns
 returns c =
     let written = c .before .before in
@@ -18,5 +24,5 @@ returns c =
 pub encrypt-spec : {M : Type 1} → statement M
 encrypt-spec =
     tie.close
-    (tie.spec (λ c κs. search needs) (λ c κs. search needs) (λ c κs. search needs) (λ c κs. search needs) (λ c κs. search needs)
+    (tie.spec (λ c κs. search needs) (λ c κs. search needs) (λ c κs. search needs) (λ c κs. search needs) write-tag-requires
     (λ c. search needs) (λ c. search needs) returns)

@@ -1,15 +1,14 @@
--- `set_up` meets its contract: a refused size gives the list's number and zeros; else the key's bytes are loaded, expanded and made into a state.
+-- `set_up` meets its contract: a refused size gives the list's number and zeros; else the key is expanded and made into a state.
 -- Assumes nothing.
-use mathlib.Core.Path.{_≡_, refl, sym, ap, _∙_}
+use mathlib.Core.Path.{_≡_, refl, sym, ap, subst⁻¹, _∙_}
 use mathlib.Core.List.{List}
 use Prim.Native.Nat.{ℕ, zero, suc}
-use native.Mathlib.Omega.{arith}
 use borrow.Author.Needs.{needs}
 use lib.ListN.{length}
-use lib.Seq.{take-all}
-use Rattle.sizes.specs.Sizes.{keyWords, aesRounds, keyBytes}
-use Rattle.standards.specs.Fips197.{keyExpansion}
-use Rattle.ocb_numbers.specs.Numbers.{setUpNumber}
+use Rattle.sizes.specs.Sizes.{roundsFor, KeyLength, Rounds, places}
+use Rattle.sizes.proofs.KeyLaws.{rounds-for}
+use Rattle.aes.specs.Schedule.{roundKeysOf}
+use Rattle.ocb_numbers.specs.Numbers.{setUpNumber, Inside}
 use Rattle.ocb_numbers.proofs.Refusals.{set-up-sizes}
 use Rattle.ocb_variables.specs.declared.State.{State}
 use Rattle.ocb_variables.specs.State.{stateOf}
@@ -24,18 +23,18 @@ unfolding setUp
 refused {n} key m e h ez = ap (λ (s : State). record { number = n; state = s }) ez ∙ by n h ∙ ap (λ (k : ℕ). madeUnless k made) e
   where
     made : State
-    made = stateOf (keyExpansion keyWords aesRounds key) m
+    made = stateOf (roundKeysOf key) (roundsFor (length key)) m
 
     by : (n : ℕ) → (n ≡ 0 → ⊥) → _≡_ {A = SetUp} (record { number = n; state = zeroState }) (madeUnless n made)
     by zero h = absurd (h refl)
     by (suc n) h = refl
 
-made : {n : ℕ} {k rk : List ℕ} {s : State} (key : List ℕ) (m : ℕ) → n ≡ setUpNumber (length key) m → n ≡ 0 → k ≡ key
-    → rk ≡ keyExpansion keyWords aesRounds k → s ≡ stateOf rk m → _≡_ {A = SetUp} (record { number = 0; state = s }) (setUp key m)
+made : {n nr : ℕ} {rk : List ℕ} {s : State} (key : List ℕ) (m : ℕ) → n ≡ setUpNumber (length key) m → n ≡ 0 → nr ≡ roundsFor (length key)
+    → rk ≡ roundKeysOf key → s ≡ stateOf rk nr m → _≡_ {A = SetUp} (record { number = 0; state = s }) (setUp key m)
 unfolding setUp
-made {s = s} key m e z ek er es =
-    let u : _≡_ {A = SetUp} (record { number = 0; state = s }) (record { number = 0; state = stateOf (keyExpansion keyWords aesRounds key) m }) = cc in
-    u ∙ ap (λ (k : ℕ). madeUnless k (stateOf (keyExpansion keyWords aesRounds key) m)) (sym z ∙ e)
+made {s = s} key m e z en er es =
+    let u : _≡_ {A = SetUp} (record { number = 0; state = s }) (record { number = 0; state = stateOf (roundKeysOf key) (roundsFor (length key)) m }) = cc in
+    u ∙ ap (λ (k : ℕ). madeUnless k (stateOf (roundKeysOf key) (roundsFor (length key)) m)) (sym z ∙ e)
 
 returns : tie.Need-returns
 returns c =
@@ -43,29 +42,30 @@ returns c =
     let a = asked .before .before .args in
     refused (a .key .now) (a .m) (asked .refuse-set-up .ensures) (c .before .if1 .taken) (c .zero-state .ensures)
 
-load-requires : tie.Need-load-requires
-load-requires c κs =
-    let a = c .before .before .before .args in
-    omega (arith, set-up-sizes (length (a .key .now)) (a .m) (sym (c .before .refuse-set-up .ensures) ∙ c .if1 .left) .0)
+sizes : (c : tie.Else1) → let a = c .before .before .before .args in KeyLength (length (a .key .now)) × Inside 1 places (a .m)
+sizes c = let a = c .before .before .before .args in set-up-sizes (length (a .key .now)) (a .m) (sym (c .before .refuse-set-up .ensures) ∙ c .if1 .left)
+
+expand-key-requires : tie.Need-expand-key-requires
+expand-key-requires c κs = sizes (c .before .before .before) .0
 
 key-dependent-variables-requires : tie.Need-key-dependent-variables-requires
 key-dependent-variables-requires c κs =
-    let admitted = c .before .before .before .before .before in
-    let a = admitted .before .before .before .args in
-    (search needs, set-up-sizes (length (a .key .now)) (a .m) (sym (admitted .before .refuse-set-up .ensures) ∙ admitted .if1 .left) .1 .to)
+    let numbered = c .before .before in
+    let admitted = sizes (numbered .before .before) in
+    (numbered .before .encipher-tables .ensures, subst⁻¹ Rounds (numbered .rounds-for .ensures) (rounds-for (admitted .0)), admitted .1 .to)
 
 returns-2 : tie.Need-returns-2
 returns-2 c =
-    let loaded = c .before .before .before .before .before in
-    let admitted = loaded .before in
+    let expanded = c .before in
+    let numbered = expanded .before .before in
+    let admitted = numbered .before .before in
     let asked = admitted .before in
     let a = asked .before .before .args in
-    let key : List ℕ = a .key .now in
-    let number = asked .refuse-set-up .ensures in
-    let long : length key ≡ keyBytes = set-up-sizes (length key) (a .m) (sym number ∙ admitted .if1 .left) .0 in
-    made key (a .m) number (admitted .if1 .left) (loaded .load .ensures ∙ take-all keyBytes key (omega (arith, long)))
-    (c .before .expand-key .ensures) (c .key-dependent-variables .ensures)
+    made (a .key .now) (a .m) (asked .refuse-set-up .ensures) (admitted .if1 .left) (numbered .rounds-for .ensures)
+    (expanded .expand-key .ensures) (c .key-dependent-variables .ensures)
 
 pub set-up-spec : {M : Type 1} → statement M
 set-up-spec =
-    tie.close (tie.spec (λ c κs. search needs) (λ c κs. search needs) returns load-requires (λ c κs. search needs) (λ c κs. search needs) key-dependent-variables-requires returns-2)
+    tie.close
+    (tie.spec (λ c κs. search needs) (λ c κs. search needs) returns (λ c κs. search needs) (λ c κs. search needs) expand-key-requires
+    key-dependent-variables-requires returns-2)

@@ -1,86 +1,96 @@
 -- `refuse` meets its contract: each test is a rule of the list, in the list's order. Assumes nothing.
-use mathlib.Core.Path.{sym, _∙_}
+use mathlib.Core.Path.{sym, ap, _∙_}
+use mathlib.Core.Bool.{not}
+use mathlib.Core.List.{List}
 use borrow.Author.Needs.{needs}
 use Rattle.sizes.specs.Sizes.{places}
-use Rattle.ocb_numbers.specs.Numbers.{sizeRules, refusal}
-use Rattle.ocb_numbers.proofs.RuleLaws.{first-at, first-none}
+use Rattle.ocb_numbers.specs.Numbers.{Rule, sizeRules, refusal, Inside}
+use Rattle.ocb_numbers.proofs.RuleLaws.{NoneBefore, none-to, first-at, first-none}
 use Rattle.ocb_numbers.proofs.Refusals.{inside}
 use Rattle.ocb_numbers.proofs.refuse.Statement.{statement}
 use Rattle.ocb_numbers.proofs.refuse.Tie as tie
 
+abbrev rules : tie.Start → List Rule
+rules s = let a = s .args in sizeRules (a .m) (a .rounds) (a .nonce) (a .ad) (a .text) (a .tag)
+
+-- ---- where the tests so far let the sizes through: the start, and that none of the rules so far applies
+
+abbrev start-1 : tie.Else1 → tie.Start
+start-1 c = c .before .before
+
+none-1 : (c : tie.Else1) → NoneBefore 1 (rules (start-1 c))
+none-1 c = none-to 0 (rules (start-1 c)) tt (sym (c .before .outside .ensures) ∙ c .if1 .left)
+
+abbrev start-2 : tie.Else2 → tie.Start
+start-2 c = start-1 (c .before .before)
+
+none-2 : (c : tie.Else2) → NoneBefore 2 (rules (start-2 c))
+none-2 c = none-to 1 (rules (start-2 c)) (none-1 (c .before .before)) (ap not (sym (c .before .among .ensures)) ∙ c .if2 .left)
+
+abbrev start-3 : tie.Else3 → tie.Start
+start-3 c = start-2 (c .before .before)
+
+none-3 : (c : tie.Else3) → NoneBefore 3 (rules (start-3 c))
+none-3 c = none-to 2 (rules (start-3 c)) (none-2 (c .before .before)) (sym (c .before .outside2 .ensures) ∙ c .if3 .left)
+
+abbrev start-4 : tie.Else4 → tie.Start
+start-4 c = start-3 (c .before .before)
+
+none-4 : (c : tie.Else4) → NoneBefore 4 (rules (start-4 c))
+none-4 c = none-to 3 (rules (start-4 c)) (none-3 (c .before .before)) (sym (c .before .outside3 .ensures) ∙ c .if4 .left)
+
+abbrev start-5 : tie.Else5 → tie.Start
+start-5 c = start-4 (c .before .before)
+
+none-5 : (c : tie.Else5) → NoneBefore 5 (rules (start-5 c))
+none-5 c = none-to 4 (rules (start-5 c)) (none-4 (c .before .before)) (sym (c .before .too-long .ensures) ∙ c .if5 .left)
+
+-- m is then a number of places
+filled : (c : tie.Else1) → Inside 1 places (start-1 c .args .m)
+filled c = inside 1 places (start-1 c .args .m) (none-1 c .0)
+
+-- ---- what is returned
+
 returns : tie.Need-returns
 unfolding refusal
-returns c =
-    let a = c .before .before .args in
-    sym (first-at 0 (sizeRules (a .m) (a .nonce) (a .ad) (a .text) (a .tag)) tt (sym (c .before .outside .ensures) ∙ c .if1 .taken))
+returns c = sym (first-at 0 (rules (c .before .before)) tt (sym (c .before .outside .ensures) ∙ c .if1 .taken))
 
 returns-2 : tie.Need-returns-2
 unfolding refusal
 returns-2 c =
-    let at1 = c .before .before in
-    let a = at1 .before .before .args in
-    let e1 = sym (at1 .before .outside .ensures) ∙ at1 .if1 .left in
-    sym (first-at 1 (sizeRules (a .m) (a .nonce) (a .ad) (a .text) (a .tag)) (e1, tt) (sym (c .before .outside2 .ensures) ∙ c .if2 .taken))
+    let let-through = c .before .before in
+    sym (first-at 1 (rules (start-1 let-through)) (none-1 let-through) (ap not (sym (c .before .among .ensures)) ∙ c .if2 .taken))
 
 returns-3 : tie.Need-returns-3
 unfolding refusal
 returns-3 c =
-    let at2 = c .before .before in
-    let at1 = at2 .before .before in
-    let a = at1 .before .before .args in
-    let e1 = sym (at1 .before .outside .ensures) ∙ at1 .if1 .left in
-    let e2 = sym (at2 .before .outside2 .ensures) ∙ at2 .if2 .left in
-    sym (first-at 2 (sizeRules (a .m) (a .nonce) (a .ad) (a .text) (a .tag)) (e1, (e2, tt)) (sym (c .before .outside3 .ensures) ∙ c .if3 .taken))
+    let let-through = c .before .before in
+    sym (first-at 2 (rules (start-2 let-through)) (none-2 let-through) (sym (c .before .outside2 .ensures) ∙ c .if3 .taken))
 
 returns-4 : tie.Need-returns-4
 unfolding refusal
 returns-4 c =
-    let at3 = c .before .before in
-    let at2 = at3 .before .before in
-    let at1 = at2 .before .before in
-    let a = at1 .before .before .args in
-    let e1 = sym (at1 .before .outside .ensures) ∙ at1 .if1 .left in
-    let e2 = sym (at2 .before .outside2 .ensures) ∙ at2 .if2 .left in
-    let e3 = sym (at3 .before .outside3 .ensures) ∙ at3 .if3 .left in
-    sym (first-at 3 (sizeRules (a .m) (a .nonce) (a .ad) (a .text) (a .tag)) (e1, (e2, (e3, tt))) (sym (c .before .too-long .ensures) ∙ c .if4 .taken))
+    let let-through = c .before .before in
+    sym (first-at 3 (rules (start-3 let-through)) (none-3 let-through) (sym (c .before .outside3 .ensures) ∙ c .if4 .taken))
 
 returns-5 : tie.Need-returns-5
 unfolding refusal
 returns-5 c =
-    let at4 = c .before .before in
-    let at3 = at4 .before .before in
-    let at2 = at3 .before .before in
-    let at1 = at2 .before .before in
-    let a = at1 .before .before .args in
-    let e1 = sym (at1 .before .outside .ensures) ∙ at1 .if1 .left in
-    let e2 = sym (at2 .before .outside2 .ensures) ∙ at2 .if2 .left in
-    let e3 = sym (at3 .before .outside3 .ensures) ∙ at3 .if3 .left in
-    let e4 = sym (at4 .before .too-long .ensures) ∙ at4 .if4 .left in
-    sym (first-at 4 (sizeRules (a .m) (a .nonce) (a .ad) (a .text) (a .tag)) (e1, (e2, (e3, (e4, tt)))) (sym (c .before .too-long2 .ensures) ∙ c .if5 .taken))
+    let let-through = c .before .before in
+    sym (first-at 4 (rules (start-4 let-through)) (none-4 let-through) (sym (c .before .too-long .ensures) ∙ c .if5 .taken))
 
 returns-6 : tie.Need-returns-6
 unfolding refusal
 returns-6 c =
-    let at4 = c .before .before in
-    let at3 = at4 .before .before in
-    let at2 = at3 .before .before in
-    let at1 = at2 .before .before in
-    let a = at1 .before .before .args in
-    let e1 = sym (at1 .before .outside .ensures) ∙ at1 .if1 .left in
-    let e2 = sym (at2 .before .outside2 .ensures) ∙ at2 .if2 .left in
-    let e3 = sym (at3 .before .outside3 .ensures) ∙ at3 .if3 .left in
-    let e4 = sym (at4 .before .too-long .ensures) ∙ at4 .if4 .left in
-    sym (first-none (sizeRules (a .m) (a .nonce) (a .ad) (a .text) (a .tag)) (e1, (e2, (e3, (e4, (sym (c .before .too-long2 .ensures) ∙ c .if5 .left, tt))))))
+    let let-through = c .before .before in
+    sym (first-at 5 (rules (start-5 let-through)) (none-5 let-through) (sym (c .before .too-long2 .ensures) ∙ c .if6 .taken))
 
-too-long-requires : tie.Need-too-long-requires
-too-long-requires c κs =
-    let at1 = c .before .before .before .before in
-    inside 1 places (at1 .before .before .args .m) (sym (at1 .before .outside .ensures) ∙ at1 .if1 .left) .to
-
-too-long-requires-2 : tie.Need-too-long-requires-2
-too-long-requires-2 c κs =
-    let at1 = c .before .before .before .before .before .before in
-    inside 1 places (at1 .before .before .args .m) (sym (at1 .before .outside .ensures) ∙ at1 .if1 .left) .to
+returns-7 : tie.Need-returns-7
+unfolding refusal
+returns-7 c =
+    let let-through = c .before .before in
+    let asked = rules (start-5 let-through) in
+    sym (first-none asked (none-to 5 asked (none-5 let-through) (sym (c .before .too-long2 .ensures) ∙ c .if6 .left)))
 
 pub refuse-spec : {M : Type 1} → statement M
 refuse-spec =
@@ -92,8 +102,10 @@ refuse-spec =
     returns-2
     (λ c κs. search needs)
     returns-3
-    too-long-requires
+    (λ c κs. search needs)
     returns-4
-    too-long-requires-2
+    (λ c κs. filled (c .before .before .before .before .before .before) .to)
     returns-5
-    returns-6)
+    (λ c κs. filled (c .before .before .before .before .before .before .before .before) .to)
+    returns-6
+    returns-7)

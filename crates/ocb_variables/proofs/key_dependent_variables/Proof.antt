@@ -14,7 +14,7 @@ l-table-requires : tie.Need-l-table-requires
 l-table-requires c κs = search needs
 
 returns : tie.Need-returns
-returns c = state-made _ _ (c .before .before .encipher-with .ensures) (c .before .double .ensures) (c .l-table .ensures)
+returns c = state-made _ _ _ (c .before .before .encipher-with .ensures) (c .before .double .ensures) (c .l-table .ensures)
 
 pub key-dependent-variables-spec : {M : Type 1} → statement M
 key-dependent-variables-spec =

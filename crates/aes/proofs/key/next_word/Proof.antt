@@ -1,6 +1,7 @@
 -- `aes::key::next_word` meets its contract: the three branches are the three cases of `temp`.
 -- Assumes nothing.
 use mathlib.Core.Logic.{⊎-elim}
+use native.Mathlib.Omega.{arith}
 use Rattle.aes.proofs.KeyLaws.{quotient, next-turned, next-substituted, next-short, next-long}
 use borrow.Author.Needs.{needs}
 use Rattle.aes.proofs.key.next_word.Statement.{statement}
@@ -21,15 +22,15 @@ returns-2 : tie.Need-returns-2
 returns-2 c =
     let k = c .before .before .before .before .before in
     next-substituted _ _ _ _ _ (k .before .key-word .ensures) (k .key-word2 .ensures) _ _ (c .before .before .before .before .if1 .left)
-    (c .before .before .before .if2 .taken) (c .before .before .if3 .taken) (c .before .sub-word .ensures) (c .add-column2 .ensures)
+    (omega (arith, c .before .before .before .if2 .taken)) (omega (arith, c .before .before .if3 .taken)) (c .before .sub-word .ensures) (c .add-column2 .ensures)
 
 returns-3 : tie.Need-returns-3
 returns-3 c =
     let k = c .before .before .before in
     let h = c .before .before .if1 .left in
     ⊎-elim
-    (λ v. next-long _ _ _ _ _ (k .before .key-word .ensures) (k .key-word2 .ensures) _ h (v .0 .taken) (v .1 .left) (c .add-column3 .ensures))
-    (λ v. next-short _ _ _ _ _ (k .before .key-word .ensures) (k .key-word2 .ensures) _ h (v .left) (c .add-column3 .ensures))
+    (λ v. next-long _ _ _ _ _ (k .before .key-word .ensures) (k .key-word2 .ensures) _ h (omega (arith, v .0 .taken)) (λ e. v .1 .left (omega (arith, e))) (c .add-column3 .ensures))
+    (λ v. next-short _ _ _ _ _ (k .before .key-word .ensures) (k .key-word2 .ensures) _ h (omega (arith, v .left)) (c .add-column3 .ensures))
     (c .before .if2 .came)
 
 pub next-word-spec : {M : Type 1} → statement M

@@ -10,7 +10,7 @@ use Rattle.ocb_steps.proofs.either.wide.Tie as tie
 wide-decrypt-requires : tie.Need-wide-decrypt-requires
 wide-decrypt-requires c κs =
     let s = c .before .before .before in
-    (subst (λ (b : Bool). TablesTo b (s .args .tables .now)) (c .before .if1 .taken) (s .pre .0), s .pre .1, s .pre .2)
+    (subst (λ (b : Bool). TablesTo b (s .args .tables .now)) (c .before .if1 .taken) (s .pre .0), s .pre .1, s .pre .2, s .pre .3)
 
 returns : tie.Need-returns
 returns c = let done = c .before .before in two-either (done .before .before .if1 .taken) (done .wide-decrypt .ensures)
@@ -18,7 +18,7 @@ returns c = let done = c .before .before in two-either (done .before .before .if
 wide-encrypt-requires : tie.Need-wide-encrypt-requires
 wide-encrypt-requires c κs =
     let s = c .before .before .before in
-    (subst (λ (b : Bool). TablesTo b (s .args .tables .now)) (c .before .if1 .left) (s .pre .0), s .pre .1, s .pre .2)
+    (subst (λ (b : Bool). TablesTo b (s .args .tables .now)) (c .before .if1 .left) (s .pre .0), s .pre .1, s .pre .2, s .pre .3)
 
 returns-2 : tie.Need-returns-2
 returns-2 c = let done = c .before .before in two-either (done .before .before .if1 .left) (done .wide-encrypt .ensures)

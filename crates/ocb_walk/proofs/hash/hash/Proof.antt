@@ -30,7 +30,7 @@ hash-one-requires c κs =
     let l = c .before .before .loop in
     let s = c .before .before .before .before in
     let K = lentKey (s .args .rk .now) (s .args .table .now) (s .args .v) in
-    (s .pre .0, fits-reach (s .pre .1) (l .r .done + 1) (omega arith) (omega (arith, hashed-done K (s .args .ad .now) (l .i) (l .inv .1))))
+    (s .pre .0, fits-reach (s .pre .1) (l .r .done + 1) (omega arith) (omega (arith, hashed-done K (s .args .ad .now) (l .i) (l .inv .1))), s .pre .2)
 
 loop-again : tie.Need-loop-again Inv-loop μ-loop
 loop-again c =

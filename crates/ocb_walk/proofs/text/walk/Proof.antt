@@ -23,7 +23,7 @@ wide-requires c κs =
     let s = c .before .before .before .before in
     let text = s .args .s .now in
     let lent = lent-blocks 2 (l .r .done + 1 + 1) (l .i) text (l .s) (s .pre .1) (l .inv .long) (omega arith) (omega arith) (omega (arith, run-done (l .inv .done))) in
-    (s .pre .0, lent .0, lent .1)
+    (s .pre .0, lent .0, lent .1, s .pre .2)
 
 loop-again : tie.Need-loop-again Inv-loop μ-loop
 loop-again c =
@@ -41,7 +41,7 @@ one-requires c κs =
     let s = c .before .before .before .before .before in
     let text = s .args .s .now in
     let lent = lent-blocks 1 (l .r .done + 1) (l .i) text (l .s) (s .pre .1) (l .inv .long) (omega arith) (omega arith) (omega (arith, run-done (l .inv .done))) in
-    (s .pre .0, lent .0, lent .1)
+    (s .pre .0, lent .0, lent .1, s .pre .2)
 
 returns : tie.Need-returns Inv-loop μ-loop
 returns c =
