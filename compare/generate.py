@@ -1,6 +1,7 @@
 """Makes the cases of a comparison from a seed: first kinds that are gone through whole, then random ones. A good ciphertext is sealed by OpenSSL, never by
 the port or the crate."""
 
+import itertools
 import random
 
 import paper
@@ -10,21 +11,31 @@ BODIES = ("key", "nonce", "data", "text", "tag")
 ADMITTED_M = range(1, 27)
 
 
-class Generator:
-    def __init__(self, seed, openssl):
-        self.random = random.Random(seed)
-        self.openssl = openssl
+def generators(seed, openssl):
+    """One for each length of keys, from one source of random bytes."""
+    source = random.Random(seed)
+    return [Generator(source, openssl, length) for length in paper.KEY_LENGTHS]
 
-    def cases(self, count):
-        """`count` pairs of a kind's name and a case's bytes. A small count cuts the kinds short that are gone through whole."""
-        made = 0
+
+def cases(seed, openssl, count):
+    """`count` pairs of a kind's name and a case's bytes, for each length of keys in turn. A small count cuts the kinds short that are gone through whole."""
+    streams = [made.cases() for made in generators(seed, openssl)]
+    return itertools.islice(itertools.chain.from_iterable(zip(*streams)), count)
+
+
+class Generator:
+    """Makes cases with keys of one length, where nothing else is said of a kind."""
+
+    def __init__(self, source, openssl, key_length):
+        self.random = source
+        self.openssl = openssl
+        self.key_length = key_length
+
+    def cases(self):
         for kind, make in self.whole_kinds():
             for raw in make():
-                if made == count:
-                    return
-                made += 1
                 yield kind, raw
-        for _ in range(count - made):
+        while True:
             yield self.random_one()
 
     def whole_kinds(self):
@@ -45,13 +56,14 @@ class Generator:
 
     # ---- single cases ----
 
-    def fresh(self, m, data, text, nonce=12, tag=16, key=16):
+    def fresh(self, m, data, text, nonce=12, tag=16, key=None):
         """A seal of random bytes of these lengths. The tag's place holds random bytes too, so that bytes left alone show."""
+        key = self.key_length if key is None else key
         return Case(False, m, *map(self.random.randbytes, (key, nonce, data, text, tag)))
 
     def sealed(self, seal):
         """The open that accepts what `seal` gives, whatever m says. Where OpenSSL cannot seal with these sizes, the same bytes as an open."""
-        if len(seal.key) != 16 or not 1 <= len(seal.nonce) <= 15 or not 1 <= len(seal.tag) <= 16:
+        if len(seal.key) not in paper.KEY_LENGTHS or not 1 <= len(seal.nonce) <= 15 or not 1 <= len(seal.tag) <= 16:
             return seal._replace(open=True)
         text, tag = self.openssl.seal(seal.key, seal.nonce, seal.data, seal.text, len(seal.tag))
         return seal._replace(open=True, text=text, tag=tag)
@@ -69,6 +81,10 @@ class Generator:
         changed = bytearray(body)
         changed[bit // 8] ^= 1 << bit % 8
         return bytes(changed)
+
+    def keys_of_other_lengths(self, key):
+        """The same key at each other length that is admitted: cut short, or with zeros behind it."""
+        return [key[:length].ljust(length, b"\0") for length in paper.KEY_LENGTHS if length != len(key)]
 
     # ---- kinds gone through whole ----
 
@@ -91,6 +107,9 @@ class Generator:
     def key_lengths(self):
         for key in range(41):
             yield from self.both_ways(self.fresh(3, 20, 20, key=key))
+        good = self.sealed(self.fresh(3, 20, 20))
+        for key in self.keys_of_other_lengths(good.key):
+            yield good._replace(key=key).encoded()
 
     def tables(self):
         for m in (*range(31), 255):
@@ -112,9 +131,8 @@ class Generator:
         """Every choice of wrong and right sizes, both ways: the smallest number is given."""
         for choice in range(64):
             wrong = [choice >> place & 1 for place in range(6)]
-            m = 0 if wrong[1] else 1
-            seal = self.fresh(m, 32 if wrong[5] else 31, 32 if wrong[4] else 31, 5 if wrong[2] else 6, 0 if wrong[3] else 1, 15 if wrong[0] else 16)
-            yield from self.both_ways(seal)
+            m, key = 0 if wrong[1] else 1, self.key_length - wrong[0]
+            yield from self.both_ways(self.fresh(m, 32 if wrong[5] else 31, 32 if wrong[4] else 31, 5 if wrong[2] else 6, 0 if wrong[3] else 1, key))
 
     def last_nonce_bytes(self):
         """Every value of the six bits that cut the first offset out of Stretch, and every nonce length."""
@@ -199,12 +217,12 @@ class Generator:
         seal = self.fresh(m, self.random.randrange(70), self.random.randrange(70),
                           nonce=size(self.random.randrange(6, 16), 0, 5, 16, self.random.randrange(300)),
                           tag=size(self.random.randrange(1, 17), 0, 17, self.random.randrange(300)),
-                          key=size(16, 0, 15, 17, 24, 32, self.random.randrange(300)))
+                          key=size(self.key_length, 0, self.key_length - 1, self.key_length + 1, *paper.KEY_LENGTHS, self.random.randrange(300)))
         return self.sealed(seal) if self.random.random() < 0.5 else seal
 
     def damaged(self, good):
         """A copy of a good open with one thing wrong."""
-        damages = [self.with_flipped_bit, self.with_other_length, self.with_zero_tag, self.with_other_m]
+        damages = [self.with_flipped_bit, self.with_other_length, self.with_other_key_length, self.with_zero_tag, self.with_other_m]
         if len(good.text) >= 32:
             damages.append(self.with_swapped_blocks)
         if good.text != good.data:
@@ -220,6 +238,9 @@ class Generator:
         body, change = getattr(good, name), self.random.choice((1, 1, 2, 15, 16, 17))
         shorter = body[: max(0, len(body) - change)]
         return good._replace(**{name: self.random.choice((shorter, (body + bytes(change))[:LONGEST]))})
+
+    def with_other_key_length(self, good):
+        return good._replace(key=self.random.choice(self.keys_of_other_lengths(good.key)))
 
     def with_zero_tag(self, good):
         return good._replace(tag=bytes(len(good.tag)))

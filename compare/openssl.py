@@ -1,8 +1,10 @@
-"""The second judge: OCB over AES-128 of OpenSSL's libcrypto. It knows nonces of 1 to 15 bytes and tags of 1 to 16, and no table of size m."""
+"""The second judge: OCB over AES-128, AES-192 and AES-256 of OpenSSL's libcrypto. It knows nonces of 1 to 15 bytes and tags of 1 to 16, and no table of
+size m."""
 
 import ctypes
 import ctypes.util
 
+from paper import KEY_LENGTHS
 from script import Trouble
 
 SET_NONCE_LENGTH, GET_TAG, SET_TAG = 0x9, 0x10, 0x11  # the control numbers EVP_CTRL_AEAD_SET_IVLEN, _GET_TAG and _SET_TAG
@@ -27,9 +29,9 @@ class OpenSSL:
         library.EVP_CipherUpdate.argtypes = [pointer, string, out, string, number]
         library.EVP_CipherFinal_ex.argtypes = [pointer, pointer, out]
         self.library = library
-        self.cipher = library.EVP_CIPHER_fetch(None, b"AES-128-OCB", None)
-        if not self.cipher:
-            raise Trouble(f"{name} was built without AES-128-OCB")
+        self.ciphers = {length: library.EVP_CIPHER_fetch(None, b"AES-%d-OCB" % (8 * length), None) for length in KEY_LENGTHS}
+        if not all(self.ciphers.values()):
+            raise Trouble(f"{name} was built without OCB over AES")
         self.name = " ".join(library.OpenSSL_version(0).decode().split()[:2])
 
     def seal(self, key, nonce, data, text, tag_length):
@@ -52,7 +54,7 @@ class OpenSSL:
                 raise Trouble(f"OpenSSL refuses a nonce of {len(nonce)} with a tag of {len(tag)} bytes")
 
         try:
-            must(library.EVP_CipherInit_ex(context, self.cipher, None, None, None, not is_open))
+            must(library.EVP_CipherInit_ex(context, self.ciphers[len(key)], None, None, None, not is_open))
             must(library.EVP_CIPHER_CTX_ctrl(context, SET_NONCE_LENGTH, len(nonce), None))
             must(library.EVP_CIPHER_CTX_ctrl(context, SET_TAG, len(tag), None))
             if is_open:

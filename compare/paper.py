@@ -2,8 +2,8 @@
 
 | number | when |
 |---|---|
-| 1 | the key is not of 16 bytes |
-| 2 | m is not in 1 to 26 |
+| 1 | the key is not of 16, 24 or 32 bytes |
+| 2 | m is not in 1 to 26, or the state's number of rounds is not 10, 12 or 14 |
 | 3 | the nonce is not of 6 to 15 bytes |
 | 4 | the tag is not of 1 to 16 bytes |
 | 5 | the text has 2^(m+4) bytes or more |
@@ -12,6 +12,9 @@
 The smallest number that applies is given, with no cipher call and nothing changed. 0 is done; 7 is an open whose tag differs, with the text cleared.
 """
 
+ROUNDS = {16: 10, 24: 12, 32: 14}  # of the cipher, by the length of its key
+KEY_LENGTHS = tuple(ROUNDS)
+
 
 def limit(m):
     return 1 << (m + 4)
@@ -19,7 +22,7 @@ def limit(m):
 
 def refusal(case):
     """1 to 6, or 0 where the case is worked on."""
-    if len(case.key) != 16:
+    if len(case.key) not in KEY_LENGTHS:
         return 1
     if not 1 <= case.m <= 26:
         return 2

@@ -6,9 +6,8 @@ from typing import NamedTuple
 import model
 import paper
 from cases import Answer, Case
-from model import State
+from model import BUFFER, State
 
-SIZE = 632  # of the buffer that holds a state
 WRONG_SIZE = 40
 
 
@@ -32,18 +31,24 @@ def read_call(parts):
 
 def refusal(call):
     """The number that refuses the call, or 0."""
-    if len(call.state) != SIZE:
+    if len(call.state) != BUFFER.size:
         return WRONG_SIZE
-    m = int.from_bytes(call.state[208:216], "big")
-    return paper.refusal(Case(call.open, m, bytes(16), *call[2:]))
+    state = held(call)
+    if state.rounds not in paper.ROUNDS.values():
+        return 2
+    return paper.refusal(Case(call.open, state.m, bytes(16), *call[2:]))
+
+
+def held(call):
+    """The state in the call's buffer."""
+    return State(*BUFFER.unpack(call.state))
 
 
 def owed(call):
     number = refusal(call)
     if number:
         return Answer(number, 0, call.text, call.tag)
-    held = State(call.state[:176], call.state[176:192], call.state[192:208], int.from_bytes(call.state[208:216], "big"), call.state[216:])
-    return model.answer(held, *call[:1], *call[2:])
+    return model.answer(held(call), *call[:1], *call[2:])
 
 
 class Maker:
@@ -63,54 +68,76 @@ class Maker:
         yield good
         yield good._replace(tag=good.tag[:-1] + bytes([good.tag[-1] ^ 1]))
 
-    def any_state(self, m):
+    def any_state(self, rounds, m):
         """Random bytes that no key makes."""
-        return State(*map(self.random.randbytes, (176, 16, 16)), m, self.random.randbytes(416))
+        return State(self.random.randbytes(240), rounds, *map(self.random.randbytes, (16, 16)), m, self.random.randbytes(416))
 
     def calls(self):
+        for key_length, rounds in paper.ROUNDS.items():
+            yield from self.arbitrary(rounds)
+            yield from self.altered(key_length)
+            yield from self.refused(rounds)
+        yield from self.wrong_rounds()
+
+    def arbitrary(self, rounds):
         for m in range(1, 27):
             most = min(paper.limit(m) - 1, 150)
             lengths = self.random.randrange(most + 1), self.random.randrange(most + 1)
-            yield from self.every_way(self.seal(self.any_state(m), *lengths, 6 + m % 10, 1 + m % 16))
-        for byte, m in ((0, 1), (0, 26), (255, 26)):
-            state = State(*(bytes([byte]) * size for size in (176, 16, 16)), m, bytes([byte]) * 416)
-            yield from self.every_way(self.seal(state, 20, 31))
-        yield from self.every_way(self.seal(self.any_state(26), 1031, 1031))  # L_0 to L_6
-        yield from self.altered()
-        yield from self.refused()
+            yield from self.every_way(self.seal(self.any_state(rounds, m), *lengths, 6 + m % 10, 1 + m % 16))
+        for byte, m in ((b"\0", 1), (b"\0", 26), (b"\xff", 26)):
+            yield from self.every_way(self.seal(State(240 * byte, rounds, 16 * byte, 16 * byte, m, 416 * byte), 20, 31))
+        yield from self.every_way(self.seal(self.any_state(rounds, 26), 1031, 1031))  # L_0 to L_6
 
-    def altered(self):
-        """A state of a key with one part changed. A row that no block uses makes no difference."""
-        right = model.made(self.random.randbytes(16), 3)
+    def altered(self, key_length):
+        """A state of a key with one part changed. A round key or a row that no block uses makes no difference."""
+        right = model.made(self.random.randbytes(key_length), 3)
         for part in ("star", "dollar"):
             yield from self.every_way(self.seal(right._replace(**{part: self.random.randbytes(16)}), 20, 20))
-        for place in (0, 5, 10):  # the first, the middle and the last round key
-            keys = right.round_keys[: 16 * place] + self.random.randbytes(16) + right.round_keys[16 * place + 16 :]
-            yield from self.every_way(self.seal(right._replace(round_keys=keys), 20, 20))
+        for place in (0, right.rounds // 2, *range(right.rounds, 15)):  # of those that are used the first, the middle and the last, and all others
+            yield from self.every_way(self.seal(right._replace(round_keys=self.with_row(right.round_keys, place)), 20, 20))
+        for rounds in paper.ROUNDS.values():
+            if rounds != right.rounds:  # zeros for round keys, or not all that the key made
+                yield from self.every_way(self.seal(right._replace(rounds=rounds), 20, 20))
         for row in (0, 1, 2, 3, 25):  # L_0 to L_2 are used by seven blocks
-            table = right.table[: 16 * row] + self.random.randbytes(16) + right.table[16 * row + 16 :]
-            yield from self.every_way(self.seal(right._replace(table=table), 115, 117))
+            yield from self.every_way(self.seal(right._replace(table=self.with_row(right.table, row)), 115, 117))
         yield from self.every_way(self.seal(right._replace(m=26), 140, 140))  # L_3 is a row of zeros
 
-    def refused(self):
-        state = self.any_state(1)
+    def with_row(self, rows, place):
+        """Rows of sixteen bytes with other bytes in one of them."""
+        return rows[: 16 * place] + self.random.randbytes(16) + rows[16 * place + 16 :]
+
+    def both(self, seal):
+        yield seal
+        yield seal._replace(open=True)
+
+    def refused(self, rounds):
+        state = self.any_state(rounds, 1)
         for m in (0, 27, 255, 256, 257, (1 << 32) + 1, 1 << 63, (1 << 64) - 1):
-            seal = self.seal(state._replace(m=m), 3, 5)
-            yield seal
-            yield seal._replace(open=True)
+            yield from self.both(self.seal(state._replace(m=m), 3, 5))
         for data, text, nonce, tag in ((31, 31, 5, 16), (31, 31, 16, 16), (31, 31, 12, 0), (31, 31, 12, 17), (31, 32, 12, 16), (32, 31, 12, 16)):
-            seal = self.seal(state, data, text, nonce, tag)
-            yield seal
-            yield seal._replace(open=True)
+            yield from self.both(self.seal(state, data, text, nonce, tag))
         right = self.seal(state, 3, 5)
         for buffer in (b"", right.state[:-1], right.state + b"\0"):
             for call in (right, right._replace(nonce=b"")):
-                yield call._replace(state=buffer)
-                yield call._replace(state=buffer, open=True)
+                yield from self.both(call._replace(state=buffer))
+
+    def wrong_rounds(self):
+        """Numbers next to the right ones, those of key words and key bytes, and such as are right when cut or turned; beside other faults; and the state that a
+        refused set-up leaves."""
+        for rounds in (0, 1, 4, 6, 8, 9, 11, 13, 15, 16, 24, 32, 255):
+            yield from self.both(self.seal(self.any_state(rounds, 1), 3, 5))
+        for right in paper.ROUNDS.values():
+            for rounds in (right + (1 << 8), right + (1 << 32), right + (1 << 63), right << 56, (1 << 64) - right):
+                yield from self.both(self.seal(self.any_state(rounds, 1), 3, 5))
+        yield from self.both(self.seal(self.any_state((1 << 64) - 1, 27), 32, 32, 5, 0))
+        short = self.seal(self.any_state(0, 1), 3, 5)
+        yield from self.both(short._replace(state=short.state[:-1]))
+        yield from self.both(short._replace(state=bytes(BUFFER.size)))
 
     def to_spoil(self):
         """Calls of each kind: a seal, an open that accepts, one that refuses the tag, a refusal of the sizes, a buffer of another size."""
-        seal = self.seal(self.any_state(1), 1, 3, 6, 2)
-        yield from self.every_way(seal)
-        yield seal._replace(tag=b"")
-        yield seal._replace(state=seal.state[:-1])
+        for rounds in paper.ROUNDS.values():
+            seal = self.seal(self.any_state(rounds, 1), 1, 3, 6, 2)
+            yield from self.every_way(seal)
+            yield seal._replace(tag=b"")
+            yield seal._replace(state=seal.state[:-1])

@@ -1,10 +1,11 @@
-//! The crate over AES-128 with a count of the blocks that it hands to the cipher. Its sizes are types, so each combination is an instance of its own: nonces
-//! of 6 to 15 bytes, tags of 1 to 16, tables of 0 to 27 places. A table of 0 or of 27 is outside what the port admits, but the crate compiles with it.
+//! The crate over AES-128, AES-192 and AES-256 with a count of the blocks that it hands to the cipher. Its sizes are types, so each combination is an instance
+//! of its own: nonces of 6 to 15 bytes, tags of 1 to 16, tables of 0 to 27 places. A table of 0 or of 27 is outside what the port admits, but the crate
+//! compiles with it. Which of the ciphers stands behind the count is found when it runs, so that they share the instances.
 
 use std::cell::Cell;
 use std::panic::{AssertUnwindSafe, catch_unwind};
 
-use aes::Aes128;
+use aes::{Aes128, Aes192, Aes256};
 use cipher::{
     Block, BlockCipherDecBackend, BlockCipherDecClosure, BlockCipherDecrypt, BlockCipherEncBackend, BlockCipherEncClosure, BlockCipherEncrypt, BlockSizeUser,
     InOut, KeyInit, ParBlocksSizeUser, consts::*,
@@ -20,17 +21,33 @@ pub enum Outcome {
     Panicked,
 }
 
-/// AES-128 that counts every block, one at a time.
+/// The cipher that the key's length asks for.
+enum Aes {
+    Short(Aes128),
+    Middle(Aes192),
+    Long(Aes256),
+}
+
+/// `None` where the crate's own set-up over this cipher refuses the key.
+fn keyed<Cipher: KeyInit>(key: &[u8]) -> Option<Cipher>
+where
+    Ocb3<Cipher>: KeyInit,
+{
+    Ocb3::<Cipher>::new_from_slice(key).ok()?;
+    Cipher::new_from_slice(key).ok()
+}
+
+/// AES that counts every block, one at a time.
 pub struct Counting<'a> {
-    aes: Aes128,
+    aes: Aes,
     calls: &'a Cell<u32>,
 }
 
 impl<'a> Counting<'a> {
-    /// `None` where the crate's own set-up refuses the key.
+    /// `None` where the crate's own set-up refuses the key over each of the three.
     pub fn new(key: &[u8], calls: &'a Cell<u32>) -> Option<Self> {
-        Ocb3::<Aes128>::new_from_slice(key).ok()?;
-        Some(Counting { aes: Aes128::new_from_slice(key).ok()?, calls })
+        let aes = keyed(key).map(Aes::Short).or_else(|| keyed(key).map(Aes::Middle)).or_else(|| keyed(key).map(Aes::Long))?;
+        Some(Counting { aes, calls })
     }
 
     fn count(&self) {
@@ -49,14 +66,22 @@ impl ParBlocksSizeUser for Counting<'_> {
 impl BlockCipherEncBackend for Counting<'_> {
     fn encrypt_block(&self, block: InOut<'_, '_, Block<Self>>) {
         self.count();
-        self.aes.encrypt_block_inout(block);
+        match &self.aes {
+            Aes::Short(aes) => aes.encrypt_block_inout(block),
+            Aes::Middle(aes) => aes.encrypt_block_inout(block),
+            Aes::Long(aes) => aes.encrypt_block_inout(block),
+        }
     }
 }
 
 impl BlockCipherDecBackend for Counting<'_> {
     fn decrypt_block(&self, block: InOut<'_, '_, Block<Self>>) {
         self.count();
-        self.aes.decrypt_block_inout(block);
+        match &self.aes {
+            Aes::Short(aes) => aes.decrypt_block_inout(block),
+            Aes::Middle(aes) => aes.decrypt_block_inout(block),
+            Aes::Long(aes) => aes.decrypt_block_inout(block),
+        }
     }
 }
 
