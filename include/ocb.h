@@ -1,4 +1,5 @@
-/* OCB3 (RFC 7253) over AES-128 (FIPS 197), in place and detached. Link with libocb_c.a, which library/build makes.
+/* OCB3 (RFC 7253) over AES (FIPS 197), in place and detached. The key's length chooses the cipher: 16 bytes AES-128, 24 AES-192, 32 AES-256.
+ * Link with libocb_c.a, which library/build makes.
  *
  * A slice is a pointer and a length in bytes. Where the length is 0 the pointer may be NULL; else it must not be, and calls never. What a
  * function writes must not overlap anything else it is lent. Nothing is kept between calls but the caller's state buffer, so any number of
@@ -22,15 +23,16 @@ extern "C" {
 
 /* The bytes of a state buffer. ocb_state_size() gives the same number when the program runs. What lies where in it is nobody's business but
  * the library's and may change with its version, and so may the size: do not store states or send them, but set up anew from the key. */
-#define OCB_STATE_SIZE 632
+#define OCB_STATE_SIZE 704
 /* The most places for L values: with m places, texts and data are shorter than 2^(m + 4) bytes. */
 #define OCB_MOST_PLACES 26
 
 /* What the functions return. Of 0 to 7 the smallest that applies is given; 40 goes before them all. */
 enum ocb_number {
     OCB_DONE = 0,          /* done */
-    OCB_KEY_SIZE = 1,      /* set up: the key is not 16 bytes; the state is all zero */
-    OCB_PLACES = 2,        /* m is not in 1..26: at set up the state is all zero, at seal and open nothing is changed */
+    OCB_KEY_SIZE = 1,      /* set up: the key is not 16, 24 or 32 bytes; the state is all zero */
+    OCB_PLACES = 2,        /* set up: m is not in 1..26; the state is all zero
+                            * seal and open: the state's m is not in 1..26, or its rounds are not 10, 12 or 14; nothing is changed */
     OCB_NONCE_SIZE = 3,    /* the nonce is not 6 to 15 bytes; nothing is changed */
     OCB_TAG_SIZE = 4,      /* the tag is not 1 to 16 bytes; nothing is changed */
     OCB_TEXT_SIZE = 5,     /* the text is not shorter than 2^(m + 4) bytes; nothing is changed */
@@ -44,13 +46,13 @@ enum ocb_number {
 /* The size of a state buffer: OCB_STATE_SIZE. */
 size_t ocb_state_size(void);
 
-/* Makes the state of a key of 16 bytes in the buffer, with m places for L values (1 to 26; 26 serves every size admitted).
+/* Makes the state of a key of 16, 24 or 32 bytes in the buffer, with m places for L values (1 to 26; 26 serves every size admitted).
  * Returns 0, 1, 2 or 40. The state holds the round keys: keep it as secret as the key. */
 size_t ocb_set_up(uint8_t *state, size_t state_length, const uint8_t *key, size_t key_length, size_t m);
 
 /* Seals the text where it lies and writes the tag, whose length is the tag place's. Never use a nonce twice under one key.
  * *calls takes the number of blocks handed to the cipher, 0 with a refusal. Returns 0, 2 to 6 or 40.
- * A state that ocb_set_up did not write is answered too: by the same steps over the bytes it holds. */
+ * A state that ocb_set_up did not write is answered too: with 2, or by the same steps over the bytes it holds. */
 size_t ocb_seal(const uint8_t *state, size_t state_length, const uint8_t *nonce, size_t nonce_length, const uint8_t *data,
                 size_t data_length, uint8_t *text, size_t text_length, uint8_t *tag, size_t tag_length, size_t *calls);
 
@@ -66,8 +68,8 @@ size_t ocb_open(const uint8_t *state, size_t state_length, const uint8_t *nonce,
 static inline const char *ocb_message(size_t number) {
     switch (number) {
     case OCB_DONE: return "done";
-    case OCB_KEY_SIZE: return "the key is not 16 bytes";
-    case OCB_PLACES: return "the number of places is not 1 to 26";
+    case OCB_KEY_SIZE: return "the key is not 16, 24 or 32 bytes";
+    case OCB_PLACES: return "the number of places is not 1 to 26, or the state's rounds are not 10, 12 or 14";
     case OCB_NONCE_SIZE: return "the nonce is not 6 to 15 bytes";
     case OCB_TAG_SIZE: return "the tag is not 1 to 16 bytes";
     case OCB_TEXT_SIZE: return "the text is too long for the places";

@@ -1,12 +1,14 @@
-/* What only a caller from C can get wrong, or what only include/ocb.h adds: state buffers of other lengths and of any bytes, NULL for nothing,
- * the texts of the numbers. Ends with status 1 at the first wrong answer. It is C and C++, to be linked with the linker's
- * --wrap=ocb_set_up,--wrap=ocb_seal,--wrap=ocb_open: every call of the archive then goes through the functions __wrap_.. below. */
+/* What only a caller from C can get wrong, or what only include/ocb.h adds: keys and state buffers of other lengths, states of any bytes, NULL for
+ * nothing, the texts of the numbers; and an answer known from elsewhere for each key length. Ends with status 1 at the first wrong answer. It is
+ * C and C++, to be linked with the linker's --wrap=ocb_set_up,--wrap=ocb_seal,--wrap=ocb_open: every call of the archive then goes through the
+ * functions __wrap_.. below. */
 #include <ocb.h>
 #include <stdio.h>
 #include <stdlib.h>
 #include <string.h>
 
 enum { STATE = OCB_STATE_SIZE, TEXT = 40 };
+enum { ROUNDS = 240, M = 280 }; /* where a state has its rounds and its m, 8 bytes each, the highest byte first */
 
 static void expect(int holds, const char *what) {
     if (holds) return;
@@ -43,14 +45,57 @@ size_t __wrap_ocb_open(SLICES, const uint8_t *tag, size_t tag_length, size_t *ca
 static uint32_t seed = 1;
 static uint8_t any(void) { return (uint8_t)((seed = seed * 1664525u + 1013904223u) >> 24); }
 
-static const uint8_t key[16] = {0, 1, 2, 3, 4, 5, 6, 7, 8, 9, 10, 11, 12, 13, 14, 15};
+static const uint8_t counting[TEXT] = {0,  1,  2,  3,  4,  5,  6,  7,  8,  9,  10, 11, 12, 13, 14, 15, 16, 17, 18, 19,
+                                       20, 21, 22, 23, 24, 25, 26, 27, 28, 29, 30, 31, 32, 33, 34, 35, 36, 37, 38, 39};
+static const uint8_t *const key = counting;
 static const uint8_t nonce[12] = {0xbb, 0xaa, 0x99, 0x88, 0x77, 0x66, 0x55, 0x44, 0x33, 0x22, 0x11, 0x00};
 static const uint8_t data[4] = {3};
+static const uint8_t zeros[STATE] = {0};
+
+/* 16, 24 and 32 bytes are taken; every other length is refused with 1, also where m is refused too. What is refused leaves zeros. */
+static void lengths_of_the_key(void) {
+    uint8_t longest[64], state[STATE];
+    memset(longest, 6, sizeof longest);
+    for (size_t n = 0; n <= sizeof longest; n++) {
+        int taken = n == 16 || n == 24 || n == 32;
+        size_t with_places = taken ? OCB_DONE : OCB_KEY_SIZE, without = taken ? OCB_PLACES : OCB_KEY_SIZE;
+        memset(state, 5, sizeof state);
+        expect(ocb_set_up(state, STATE, longest, n, 27) == without && !memcmp(state, zeros, STATE), "set up with 27 places and a key of some length");
+        memset(state, 5, sizeof state);
+        expect(ocb_set_up(state, STATE, longest, n, 26) == with_places, "set up with a key of some length");
+        expect(taken || !memcmp(state, zeros, STATE), "a key of another length left no zeros");
+    }
+}
+
+/* 40 bytes of text and of data under a key of each length, which count up from 0. The first answer is RFC 7253's, appendix A. It has no samples of
+ * the longer keys: their answers are OpenSSL 3.0.19's (EVP_aes_192_ocb, EVP_aes_256_ocb), and libgcrypt 1.10.1 gives the same. */
+static void an_answer_for_each_key_length(void) {
+    const struct {
+        size_t key_length;
+        const char *sealed; /* the text, the tag behind it */
+    } rows[] = {
+        {16, "d5ca91748410c1751ff8a2f618255b68a0a12e093ff454606e59f9c1d0ddc54b65e8628e568bad7aed07ba06a4a69483a7035490c5769e60"},
+        {24, "86b418c98b14be157cad07cf20189dc87a9e6fd19a07bec6d6acef811d9a860c9671666bf650dd2b6e9ca93fc80b9dcf1b25ae2fda9b2520"},
+        {32, "4cf8f8f885db86893ff518086d149f0c1546ebef5cc9a1dec375ea2770754b1f595448474b661dd37e1a5a800d577bf389b87b957d316209"},
+    };
+    uint8_t state[STATE], text[TEXT], tag[16], sample[12];
+    char sealed[2 * (TEXT + 16) + 1];
+    size_t calls;
+    memcpy(sample, nonce, 12), sample[11] = 0x0d;
+    for (size_t i = 0; i < sizeof rows / sizeof *rows; i++) {
+        expect(ocb_set_up(state, STATE, key, rows[i].key_length, 26) == OCB_DONE, "set up refused");
+        memcpy(text, counting, TEXT);
+        expect(ocb_seal(state, STATE, sample, 12, counting, TEXT, text, TEXT, tag, 16, &calls) == OCB_DONE && calls == 8, "seal of 40 bytes");
+        for (size_t k = 0; k < TEXT + 16; k++) snprintf(sealed + 2 * k, 3, "%02x", k < TEXT ? text[k] : tag[k - TEXT]);
+        expect(!strcmp(sealed, rows[i].sealed), "seal of 40 bytes gave something else");
+        expect(ocb_open(state, STATE, sample, 12, counting, TEXT, text, TEXT, tag, 16, &calls) == OCB_DONE && calls == 8, "open of 40 bytes");
+        expect(!memcmp(text, counting, TEXT), "opening did not undo sealing");
+    }
+}
 
 static void lengths_of_the_state(void) {
     const size_t wrong[] = {0, 1, STATE - 1, STATE + 1};
     uint8_t state[STATE + 1], before[STATE + 1], text[TEXT], tag[16];
-    const uint8_t zeros[STATE] = {0};
     size_t calls;
 
     expect(ocb_state_size() == STATE, "ocb_state_size is not the header's");
@@ -72,14 +117,18 @@ static void lengths_of_the_state(void) {
     expect(state[STATE] == before[STATE], "the byte behind the state was changed");
 }
 
+/* Every number of rounds below 16 and every m below 32, as they are and with a higher byte that is not zero. */
 static void any_bytes_as_a_state(void) {
     uint8_t state[STATE], text[TEXT], tag[16];
     size_t calls;
-    for (int k = 0; k < 1000; k++) {
+    for (unsigned k = 0; k < 3 * 16 * 32; k++) {
+        unsigned higher = k / (16 * 32), rounds = k / 32 % 16, m = k % 32;
         for (size_t i = 0; i < STATE; i++) state[i] = any();
-        memset(state + 208, 0, 7); /* m, the highest byte first */
-        state[215] %= 32;
-        size_t wanted = 1 <= state[215] && state[215] <= 26 ? (TEXT < 16 << state[215] ? OCB_DONE : OCB_TEXT_SIZE) : OCB_PLACES;
+        memset(state + ROUNDS, 0, 7), state[ROUNDS + 7] = (uint8_t)rounds;
+        memset(state + M, 0, 7), state[M + 7] = (uint8_t)m;
+        if (higher) state[(higher == 1 ? ROUNDS : M) + any() % 7] = 1;
+        int taken = !higher && (rounds == 10 || rounds == 12 || rounds == 14) && 1 <= m && m <= 26;
+        size_t wanted = !taken ? OCB_PLACES : TEXT < 16 << m ? OCB_DONE : OCB_TEXT_SIZE;
         memset(text, 5, sizeof text);
         expect(ocb_seal(state, STATE, nonce, 12, data, 4, text, TEXT, tag, 16, &calls) == wanted, "seal with a state of any bytes");
         expect(ocb_open(state, STATE, nonce, 12, data, 4, text, TEXT, tag, 16, &calls) == wanted, "open with a state of any bytes");
@@ -124,10 +173,12 @@ static void texts_of_the_numbers(void) {
 }
 
 int main(void) {
+    lengths_of_the_key();
+    an_answer_for_each_key_length();
     lengths_of_the_state();
     any_bytes_as_a_state();
     null_for_nothing();
     texts_of_the_numbers();
-    puts("check: state buffers of other lengths and of any bytes are answered, NULL is taken for nothing, each number has its text");
+    puts("check: each key length gives its known answer; other lengths, states of any bytes and NULL are answered; each number has its text");
     return 0;
 }
