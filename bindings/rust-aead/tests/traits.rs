@@ -1,9 +1,10 @@
-//! RFC 7253's samples, appendix A, and refusals, through the traits: in place, from one buffer to another, and with the tag appended.
+//! RFC 7253's samples, appendix A, the longer keys, and refusals, through the traits: in place, from one buffer to another, and with the tag
+//! appended.
 #![cfg(feature = "alloc")]
 use rukensaz_aead::aead::consts::{U1, U12, U15, U17, U5};
 use rukensaz_aead::aead::inout::InOutBuf;
 use rukensaz_aead::aead::{Aead, AeadInOut, Error, KeyInit, Payload};
-use rukensaz_aead::Ocb3;
+use rukensaz_aead::{Aes128Ocb3, Aes192Ocb3, Aes256Ocb3, Ocb3};
 
 const KEY: [u8; 16] = [0, 1, 2, 3, 4, 5, 6, 7, 8, 9, 10, 11, 12, 13, 14, 15];
 const EIGHT: [u8; 8] = [0, 1, 2, 3, 4, 5, 6, 7];
@@ -85,9 +86,44 @@ fn another_tag_size() {
     );
 }
 
+/// The second sample's nonce, associated data and plaintext, under a key that counts up from 0.
+fn seals_to<C: KeyInit + Aead<NonceSize = U12>>(ciphertext: [u8; 8], tag: [u8; 16]) {
+    let key: Vec<u8> = (0u8..).take(C::key_size()).collect();
+    let cipher = C::new_from_slice(&key).unwrap();
+    let (nonce, aad) = (NONCE.into(), EIGHT.as_slice());
+    let sealed = cipher.encrypt(&nonce, Payload { msg: &EIGHT, aad }).unwrap();
+    assert_eq!(sealed, [&ciphertext[..], &tag[..]].concat());
+    assert_eq!(cipher.decrypt(&nonce, Payload { msg: &sealed, aad }).unwrap(), EIGHT);
+}
+
+/// RFC 7253 has no samples over AES-192 and AES-256: these two are OpenSSL 3.0.19's (`EVP_aes_192_ocb`, `EVP_aes_256_ocb`), and libgcrypt 1.10.1
+/// gives the same.
+#[test]
+fn three_key_sizes() {
+    seals_to::<Aes128Ocb3>(CIPHERTEXT, TAG);
+    seals_to::<Aes192Ocb3>(
+        [0xd8, 0xc7, 0xf1, 0x2f, 0xb7, 0x48, 0x4c, 0x6f],
+        [
+            0x5a, 0xed, 0x3b, 0x18, 0x85, 0x85, 0xfc, 0x34, 0x65, 0x28, 0xe9, 0x3e, 0x2e, 0x73, 0xa8, 0x76,
+        ],
+    );
+    seals_to::<Aes256Ocb3>(
+        [0x9d, 0xbf, 0xab, 0x68, 0x06, 0xec, 0x03, 0x5c],
+        [
+            0x4b, 0x08, 0xce, 0x1f, 0x17, 0xba, 0x56, 0x10, 0x9f, 0x6f, 0x00, 0xa3, 0x4e, 0xdd, 0xe8, 0x31,
+        ],
+    );
+}
+
 #[test]
 fn sizes_out_of_range_are_errors() {
-    assert!(<Ocb3>::new_from_slice(&KEY[1..]).is_err());
+    for length in [0, 15, 17, 23, 25, 31, 33, 64] {
+        let key = vec![0; length];
+        assert!(<Aes128Ocb3>::new_from_slice(&key).is_err());
+        assert!(<Aes192Ocb3>::new_from_slice(&key).is_err());
+        assert!(<Aes256Ocb3>::new_from_slice(&key).is_err());
+    }
+    assert!(<Aes256Ocb3>::new_from_slice(&KEY).is_err());
     let mut text = EIGHT;
     let short = Ocb3::<U5>::new(&KEY.into());
     assert_eq!(

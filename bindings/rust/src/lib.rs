@@ -5,14 +5,11 @@
 use core::fmt;
 use core::sync::atomic::{compiler_fence, Ordering};
 
-/// The bytes of a key.
-pub const KEY_SIZE: usize = 16;
-
 /// The bytes of a full tag.
 pub const TAG_SIZE: usize = 16;
 
 /// The bytes of a key's state.
-pub const STATE_SIZE: usize = 632;
+pub const STATE_SIZE: usize = 704;
 
 /// The most places for L values, which serve texts and data shorter than 2^30 bytes.
 pub const MOST_PLACES: usize = 26;
@@ -53,9 +50,9 @@ mod linked {
 #[derive(Clone, Copy, Debug, PartialEq, Eq)]
 #[non_exhaustive]
 pub enum Error {
-    /// 1: the key is not 16 bytes.
+    /// 1: the key is not 16, 24 or 32 bytes.
     KeySize,
-    /// 2: the number of places is not 1 to 26.
+    /// 2: the number of places is not 1 to 26, or the state's rounds are not 10, 12 or 14; set up writes no others.
     Places,
     /// 3: the nonce is not 6 to 15 bytes.
     NonceSize,
@@ -109,8 +106,8 @@ impl Error {
 impl fmt::Display for Error {
     fn fmt(&self, f: &mut fmt::Formatter<'_>) -> fmt::Result {
         match self {
-            Error::KeySize => f.write_str("the key is not 16 bytes"),
-            Error::Places => f.write_str("the number of places is not 1 to 26"),
+            Error::KeySize => f.write_str("the key is not 16, 24 or 32 bytes"),
+            Error::Places => f.write_str("the number of places is not 1 to 26, or the state's rounds are not 10, 12 or 14"),
             Error::NonceSize => f.write_str("the nonce is not 6 to 15 bytes"),
             Error::TagSize => f.write_str("the tag is not 1 to 16 bytes"),
             Error::TextSize => f.write_str("the text is too long for the places"),
@@ -147,21 +144,26 @@ impl Drop for Ocb3 {
 }
 
 impl Ocb3 {
-    /// The state of a key, for texts and data shorter than 2^30 bytes.
+    /// The state of a key of 16, 24 or 32 bytes, for texts and data shorter than 2^30 bytes. A key of another length does not compile:
+    ///
+    /// ```compile_fail
+    /// let cipher = rukensaz::Ocb3::new(&[0; 17]);
+    /// ```
     ///
     /// # Panics
     ///
     /// Where the linked library is not the one that this crate was written for.
     #[must_use]
-    pub fn new(key: &[u8; KEY_SIZE]) -> Ocb3 {
-        Ocb3::with_places(key, MOST_PLACES).expect("a key of 16 bytes")
+    pub fn new<const KEY_SIZE: usize>(key: &[u8; KEY_SIZE]) -> Ocb3 {
+        const { assert!(matches!(KEY_SIZE, 16 | 24 | 32), "the key is not 16, 24 or 32 bytes") };
+        Ocb3::with_places(key, MOST_PLACES).expect("a key of 16, 24 or 32 bytes")
     }
 
     /// The state of a key, for texts and data shorter than 2^30 bytes.
     ///
     /// # Errors
     ///
-    /// [`Error::KeySize`] where the key is not 16 bytes.
+    /// [`Error::KeySize`] where the key is not 16, 24 or 32 bytes.
     pub fn new_from_slice(key: &[u8]) -> Result<Ocb3, Error> {
         Ocb3::with_places(key, MOST_PLACES)
     }
@@ -170,7 +172,7 @@ impl Ocb3 {
     ///
     /// # Errors
     ///
-    /// [`Error::KeySize`] where the key is not 16 bytes, [`Error::Places`] where `m` is not 1 to 26.
+    /// [`Error::KeySize`] where the key is not 16, 24 or 32 bytes, [`Error::Places`] where `m` is not 1 to 26.
     pub fn with_places(key: &[u8], m: usize) -> Result<Ocb3, Error> {
         let mut made = Ocb3 { state: [0; STATE_SIZE] };
         let state = &mut made.state;

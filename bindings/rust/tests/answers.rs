@@ -1,8 +1,8 @@
 //! Each refusal through the linked library and what it leaves, the texts of the errors, and the wiping of a state.
-use rukensaz::{Error, Ocb3, KEY_SIZE, STATE_SIZE, TAG_SIZE};
+use rukensaz::{Error, Ocb3, STATE_SIZE, TAG_SIZE};
 use std::mem::MaybeUninit;
 
-const KEY: [u8; KEY_SIZE] = [7; KEY_SIZE];
+const KEY: [u8; 16] = [7; 16];
 
 #[test]
 fn the_state_has_the_library_s_size() {
@@ -16,10 +16,16 @@ fn the_state_has_the_library_s_size() {
 
 #[test]
 fn set_up_is_refused_by_number() {
-    assert_eq!(Ocb3::new_from_slice(&KEY[1..]).unwrap_err(), Error::KeySize);
-    assert_eq!(Ocb3::new_from_slice(&[7; KEY_SIZE + 1]).unwrap_err(), Error::KeySize);
-    assert_eq!(Ocb3::with_places(&KEY, 0).unwrap_err(), Error::Places);
-    assert_eq!(Ocb3::with_places(&KEY, 27).unwrap_err(), Error::Places);
+    for length in [0, 15, 17, 23, 25, 31, 33, 64] {
+        let key = vec![7; length];
+        assert_eq!(Ocb3::new_from_slice(&key).unwrap_err(), Error::KeySize, "{length}");
+        assert_eq!(Ocb3::with_places(&key, 0).unwrap_err(), Error::KeySize, "{length}");
+    }
+    for length in [16, 24, 32] {
+        let key = vec![7; length];
+        assert_eq!(Ocb3::with_places(&key, 0).unwrap_err(), Error::Places, "{length}");
+        assert_eq!(Ocb3::with_places(&key, 27).unwrap_err(), Error::Places, "{length}");
+    }
 }
 
 #[test]

@@ -1,4 +1,5 @@
-//! The samples of RFC 7253, appendix A, that are over AES-128: sixteen with a tag of 16 bytes, one with a tag of 12.
+//! RFC 7253, appendix A: its samples, which are over AES-128, sixteen with a tag of 16 bytes and one with a tag of 12; and its test over a wider
+//! range of sizes, over AES-128, AES-192 and AES-256.
 use rukensaz::{Ocb3, TAG_SIZE};
 
 /// Bytes of associated data and of plaintext, which count up from 0; ciphertext with the tag behind it. The sample's place in the list is
@@ -60,7 +61,7 @@ fn bytes(hex: &str) -> Vec<u8> {
 
 #[test]
 fn full_tags() {
-    let cipher = Ocb3::new(&counting(16).try_into().unwrap());
+    let cipher = Ocb3::new_from_slice(&counting(16)).unwrap();
     for (place, (data, text, published)) in (0u8..).zip(SAMPLES) {
         let (data, plain, published) = (counting(data), counting(text), bytes(published));
         let mut nonce = NONCE;
@@ -87,4 +88,44 @@ fn tag_of_twelve_bytes() {
     );
     assert_eq!(cipher.open_in_place_detached(&nonce, &data, &mut buffer, &tag), Ok(8));
     assert_eq!(buffer, counting(40));
+}
+
+/// The test over a wider range of sizes: the tag of no text and, as data, of all that seals of up to 127 zeros gave. Each seal is opened too.
+fn wider_range<const KEY_SIZE: usize>(tag_size: u8) -> Vec<u8> {
+    let mut key = [0; KEY_SIZE];
+    key[KEY_SIZE - 1] = 8 * tag_size;
+    let cipher = Ocb3::new(&key);
+    let mut number = 0u32;
+    let mut sealed = |data: &[u8], text: &[u8]| {
+        number += 1;
+        let mut nonce = [0; 12];
+        nonce[8..].copy_from_slice(&number.to_be_bytes());
+        let (mut buffer, mut tag) = (text.to_vec(), vec![0; tag_size.into()]);
+        cipher.seal_in_place_detached(&nonce, data, &mut buffer, &mut tag).unwrap();
+        let given = [&buffer[..], &tag[..]].concat();
+        cipher.open_in_place_detached(&nonce, data, &mut buffer, &tag).unwrap();
+        assert_eq!(buffer, text);
+        given
+    };
+    let mut all = Vec::new();
+    for length in 0..128 {
+        let zeros = vec![0; length];
+        all.extend(sealed(&zeros, &zeros));
+        all.extend(sealed(b"", &zeros));
+        all.extend(sealed(&zeros, b""));
+    }
+    sealed(&all, b"")
+}
+
+#[test]
+fn three_key_lengths() {
+    assert_eq!(wider_range::<16>(16), bytes("67e944d23256c5e0b6c61fa22fdf1ea2"));
+    assert_eq!(wider_range::<24>(16), bytes("f673f2c3e7174aae7bae986ca9f29e17"));
+    assert_eq!(wider_range::<32>(16), bytes("d90eb8e9c977c88b79dd793d7ffa161c"));
+    assert_eq!(wider_range::<16>(12), bytes("77a3d8e73589158d25d01209"));
+    assert_eq!(wider_range::<24>(12), bytes("05d56ead2752c86be6932c5e"));
+    assert_eq!(wider_range::<32>(12), bytes("5458359ac23b0cba9e6330dd"));
+    assert_eq!(wider_range::<16>(8), bytes("192c9b7bd90ba06a"));
+    assert_eq!(wider_range::<24>(8), bytes("0066bc6e0ef34e24"));
+    assert_eq!(wider_range::<32>(8), bytes("7d4ea5d445501cbe"));
 }
