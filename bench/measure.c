@@ -1,4 +1,5 @@
-/* Times one engine: measure ENGINE, with ENGINE one of rukensaz, yardstick, openssl, libgcrypt, libgcrypt-plain.
+/* Times one engine: measure ENGINE [KEY_LENGTH], with ENGINE one of rukensaz, yardstick, openssl, libgcrypt, libgcrypt-plain, and a key of 16, 24
+ * or 32 bytes, 16 where nothing is said.
  * It reads lines "JOB LENGTH COUNT" (JOB: set-up, seal or open) and answers each with "NANOSECONDS DIGEST": the processor time of COUNT
  * jobs, and a digest of what the last one left, by which bench/run sees that all engines did the same work. Nonces of 12 bytes that count
  * up, associated data of 4, tags of 16. An open is timed with the copy of the sealed text that it works on. */
@@ -15,7 +16,10 @@
 #include <gcrypt.h>
 #endif
 
-static const uint8_t key[16] = {0, 1, 2, 3, 4, 5, 6, 7, 8, 9, 10, 11, 12, 13, 14, 15}, data[4] = {7, 0, 0, 0};
+static const uint8_t key[32] = {0,  1,  2,  3,  4,  5,  6,  7,  8,  9,  10, 11, 12, 13, 14, 15,
+                                16, 17, 18, 19, 20, 21, 22, 23, 24, 25, 26, 27, 28, 29, 30, 31};
+static const uint8_t data[4] = {7, 0, 0, 0};
+static size_t key_length = 16;
 
 struct engine {
     const char *name;
@@ -34,7 +38,7 @@ static void fail(const char *what) {
 static uint8_t state[OCB_STATE_SIZE];
 
 static void own_set_up(void) {
-    if ((ocb_set_up)(state, sizeof state, key, 16, 26)) fail("ocb_set_up refused");
+    if ((ocb_set_up)(state, sizeof state, key, key_length, 26)) fail("ocb_set_up refused");
 }
 static void own_seal(const uint8_t nonce[12], uint8_t *text, size_t length, uint8_t tag[16]) {
     size_t calls;
@@ -49,7 +53,10 @@ static int own_open(const uint8_t nonce[12], uint8_t *text, size_t length, const
 
 static struct yardstick yard;
 
-static void yard_set_up(void) { yardstick_set_up(&yard, key); }
+static void yard_set_up(void) {
+    if (key_length != 16) fail("the yardstick takes keys of 16 bytes only");
+    yardstick_set_up(&yard, key);
+}
 static void yard_seal(const uint8_t nonce[12], uint8_t *text, size_t length, uint8_t tag[16]) {
     yardstick_seal(&yard, nonce, data, 4, text, length, tag);
 }
@@ -63,12 +70,13 @@ static int yard_open(const uint8_t nonce[12], uint8_t *text, size_t length, cons
 static EVP_CIPHER_CTX *sealing, *opening;
 
 static void ssl_set_up(void) {
+    const EVP_CIPHER *cipher = key_length == 16 ? EVP_aes_128_ocb() : key_length == 24 ? EVP_aes_192_ocb() : EVP_aes_256_ocb();
     EVP_CIPHER_CTX_free(sealing);
     EVP_CIPHER_CTX_free(opening);
     sealing = EVP_CIPHER_CTX_new();
     opening = EVP_CIPHER_CTX_new();
-    if (EVP_EncryptInit_ex(sealing, EVP_aes_128_ocb(), NULL, key, NULL) != 1 || EVP_DecryptInit_ex(opening, EVP_aes_128_ocb(), NULL, key, NULL) != 1)
-        fail("OpenSSL has no AES-128-OCB");
+    if (EVP_EncryptInit_ex(sealing, cipher, NULL, key, NULL) != 1 || EVP_DecryptInit_ex(opening, cipher, NULL, key, NULL) != 1)
+        fail("OpenSSL has no AES-OCB");
 }
 static void ssl_seal(const uint8_t nonce[12], uint8_t *text, size_t length, uint8_t tag[16]) {
     int n, m;
@@ -92,8 +100,9 @@ static int ssl_open(const uint8_t nonce[12], uint8_t *text, size_t length, const
 static gcry_cipher_hd_t handle;
 
 static void gcrypt_set_up(void) {
+    int cipher = key_length == 16 ? GCRY_CIPHER_AES128 : key_length == 24 ? GCRY_CIPHER_AES192 : GCRY_CIPHER_AES256;
     gcry_cipher_close(handle);
-    if (gcry_cipher_open(&handle, GCRY_CIPHER_AES128, GCRY_CIPHER_MODE_OCB, 0) || gcry_cipher_setkey(handle, key, 16)) fail("libgcrypt has no AES-128-OCB");
+    if (gcry_cipher_open(&handle, cipher, GCRY_CIPHER_MODE_OCB, 0) || gcry_cipher_setkey(handle, key, key_length)) fail("libgcrypt has no AES-OCB");
 }
 static void gcrypt_start(const uint8_t nonce[12]) {
     if (gcry_cipher_setiv(handle, nonce, 12) || gcry_cipher_authenticate(handle, data, 4)) fail("libgcrypt refused the nonce");
@@ -142,9 +151,12 @@ static void number(uint8_t nonce[12], unsigned i) {
 
 int main(int argc, char **argv) {
     const struct engine *e = NULL;
-    for (size_t i = 0; argc == 2 && i < sizeof engines / sizeof *engines; i++)
+    if (argc != 2 && argc != 3) fail("wants an engine, and a key length or none");
+    for (size_t i = 0; i < sizeof engines / sizeof *engines; i++)
         if (!strcmp(engines[i].name, argv[1])) e = &engines[i];
     if (!e) fail("this engine was not built in");
+    if (argc == 3) key_length = strtoul(argv[2], NULL, 10);
+    if (key_length != 16 && key_length != 24 && key_length != 32) fail("the key length is not 16, 24 or 32");
 #ifdef WITH_LIBGCRYPT
     if (!strcmp(e->name, "libgcrypt-plain")) gcry_control(GCRYCTL_DISABLE_HWF, "all", NULL);
     if (!strncmp(e->name, "libgcrypt", 9) && !gcry_check_version(NULL)) fail("libgcrypt does not start");

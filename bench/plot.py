@@ -3,7 +3,7 @@ import math
 
 WIDTH, HEIGHT = 860, 520
 LEFT, RIGHT, TOP, BOTTOM = 80, 250, 50, 60
-COLOURS = ["#c0392b", "#2c3e50", "#2980b9", "#16a085", "#8e44ad", "#b9770e"]
+COLOURS = ["#c0392b", "#2c3e50", "#2980b9", "#16a085", "#8e44ad", "#b9770e", "#7f8c8d", "#d35400"]
 
 
 def ticks(low, high):
@@ -41,7 +41,7 @@ def write_plot(path, series):
     out = [
         f'<svg xmlns="http://www.w3.org/2000/svg" viewBox="0 0 {WIDTH} {HEIGHT}" font-family="sans-serif" font-size="13">',
         f'<rect width="{WIDTH}" height="{HEIGHT}" fill="white"/>',
-        f'<text x="{LEFT}" y="28" font-size="16">Time of one seal against the length of the text</text>',
+        f'<text x="{LEFT}" y="28" font-size="16">Time of one seal against the length of the text, keys of 16 bytes</text>',
     ]
     for k in ticks(y0, y1):
         out.append(f'<line x1="{LEFT}" x2="{WIDTH - RIGHT}" y1="{y(10**k):.1f}" y2="{y(10**k):.1f}" stroke="#dddddd"/>')

@@ -1,5 +1,5 @@
-/* How many bytes of stack a call of the library takes, for texts of several lengths: the call runs on a stack that was filled with one byte, and what
- * is no longer that byte afterwards, below the caller's frame, was used. What the end of a thread takes by itself is told first. */
+/* How many bytes of stack a call of the library takes, for each key length and texts of several lengths: the call runs on a stack that was filled with
+ * one byte, and what is no longer that byte afterwards, below the caller's frame, was used. What the end of a thread takes by itself is told first. */
 #include <pthread.h>
 #include <stdio.h>
 #include <stdlib.h>
@@ -10,7 +10,7 @@ enum { ROOM = 1 << 20, FILL = 0xa5 };
 
 static uint8_t state[OCB_STATE_SIZE], nonce[12], data[4], tag[16];
 static uint8_t *text;
-static size_t length;
+static size_t length, key_length;
 static uint8_t *frame; /* where the caller's frame stands */
 
 static void *nothing(void *unused)
@@ -21,9 +21,9 @@ static void *nothing(void *unused)
 
 static void *set_up(void *unused)
 {
-    static const uint8_t key[16];
+    static const uint8_t key[32];
     frame = __builtin_frame_address(0);
-    (ocb_set_up)(state, sizeof state, key, sizeof key, 26);
+    (ocb_set_up)(state, sizeof state, key, key_length, 26);
     return unused;
 }
 
@@ -65,12 +65,14 @@ int main(void)
 {
     static const size_t lengths[] = {0, 11, 4096, 1 << 20};
     printf("no call: %zu bytes of stack\n", used(nothing));
-    printf("set up: %zu bytes of stack\n", used(set_up));
-    for (size_t i = 0; i < sizeof lengths / sizeof *lengths; i++) {
-        length = lengths[i];
-        if (!(text = calloc(1, length + 1))) exit(2);
-        printf("%zu bytes of text: seal %zu, open %zu bytes of stack\n", length, used(seal), used(open_it));
-        free(text);
+    for (key_length = 16; key_length <= 32; key_length += 8) {
+        printf("key of %zu bytes: set up %zu bytes of stack\n", key_length, used(set_up));
+        for (size_t i = 0; i < sizeof lengths / sizeof *lengths; i++) {
+            length = lengths[i];
+            if (!(text = calloc(1, length + 1))) exit(2);
+            printf("  %zu bytes of text: seal %zu, open %zu bytes of stack\n", length, used(seal), used(open_it));
+            free(text);
+        }
     }
     return 0;
 }

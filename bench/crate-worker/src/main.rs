@@ -1,12 +1,13 @@
-//! Times the crate ocb3 over AES-128: the same lines in and out as bench/measure.c, with a table of 26 places.
-use aes::Aes128;
+//! Times the crate ocb3: crate-worker [KEY_LENGTH], with the same key lengths and the same lines in and out as bench/measure.c, and a table of 26
+//! places.
+use aes::{Aes128, Aes192, Aes256};
 use ocb3::aead::{AeadInOut, KeyInit};
 use ocb3::consts::{U12, U16};
 use ocb3::{Array, Ocb3};
 use std::io::BufRead;
 use std::mem::MaybeUninit;
 
-type Mode = Ocb3<Aes128, U12, U16, 26>;
+type Mode<Cipher> = Ocb3<Cipher, U12, U16, 26>;
 
 const DATA: [u8; 4] = [7, 0, 0, 0];
 
@@ -30,9 +31,8 @@ fn now() -> u64 {
     time.seconds as u64 * 1_000_000_000 + time.nanoseconds as u64
 }
 
-fn set_up() -> Mode {
-    let key: [u8; 16] = core::array::from_fn(|i| i as u8);
-    Mode::new(&key.into())
+fn set_up<M: KeyInit>() -> M {
+    M::new(&Array::from_fn(|i| i as u8))
 }
 
 fn number(i: u32) -> Array<u8, U12> {
@@ -46,8 +46,8 @@ fn digest(bytes: impl Iterator<Item = u8>) -> u64 {
     bytes.fold(0xcbf29ce484222325, |d, byte| (d ^ byte as u64).wrapping_mul(0x100000001b3))
 }
 
-fn main() {
-    let mut mode = set_up();
+fn serve<M: KeyInit + AeadInOut<NonceSize = U12, TagSize = U16>>() {
+    let mut mode: M = set_up();
     for line in std::io::stdin().lock().lines() {
         let line = line.expect("a line");
         let words: Vec<&str> = line.split(' ').collect();
@@ -71,5 +71,14 @@ fn main() {
         }
         let took = now() - began;
         println!("{took} {:016x}", digest(text.iter().chain(tag.iter()).copied()));
+    }
+}
+
+fn main() {
+    match std::env::args().nth(1).as_deref() {
+        None | Some("16") => serve::<Mode<Aes128>>(),
+        Some("24") => serve::<Mode<Aes192>>(),
+        Some("32") => serve::<Mode<Aes256>>(),
+        Some(other) => panic!("a key length of 16, 24 or 32, not {other}"),
     }
 }
