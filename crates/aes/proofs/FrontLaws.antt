@@ -5,7 +5,8 @@ use mathlib.Core.List.{List, [], _∷_}
 use Prim.Native.Nat.{ℕ, zero, suc, _+_, _-_, _*_, _<_}
 use native.Mathlib.Omega.{arith}
 use lib.ListN.{take}
-use Rattle.standards.specs.Fips197.{State, subBytes, invSubBytes, shiftRows, invShiftRows, mixColumns, invMixColumns, addState, addRoundKey, rounds, cipher, invRounds, invCipher, toBlock, fromBlock, encipher, decipher}
+use Rattle.standards.specs.Fips197.{State, toBlock, fromBlock, subBytes, invSubBytes, shiftRows, invShiftRows, mixColumns, invMixColumns, addState, addRoundKey}
+use Rattle.standards.specs.Fips197.{rounds, cipher, invRounds, invCipher, encipher, decipher}
 use Rattle.aes.specs.Cipher.{enc, dec}
 use Rattle.aes.specs.Cipher.Body.{enc-is, dec-is}
 use Rattle.aes.proofs.KeyLaws.{word-take}

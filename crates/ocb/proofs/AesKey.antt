@@ -21,7 +21,7 @@ use Rattle.ocb_laws.proofs.Cipher.{Cipher}
 use Rattle.ocb_laws.proofs.Agree.{Agrees}
 use Rattle.ocb_variables.specs.declared.State.{State}
 use Rattle.ocb_variables.specs.Held.{held}
-use Rattle.ocb_variables.specs.State.{stateOf}
+use Rattle.ocb_variables.specs.State.{stateFor}
 use Rattle.ocb_variables.proofs.BlockLaws.{double-block, doubled-block, initial-offset-block}
 use Rattle.ocb_variables.proofs.KeyLaws.{state-agrees}
 use Rattle.ocb_numbers.specs.Numbers.{NonceSize, TagSize}
@@ -75,8 +75,8 @@ module _ (k : List ℕ) where
       let w : List ℕ = keyExpansion words nr k in
       ap₂ keyed (λ i b. enc-alike nr (roundKeysOf k) w e b i) (λ i b. dec-alike nr (roundKeysOf k) w e b i) ∙ fips
 
-  pub state-holds : KeyLength (length k) → (m : ℕ) → Agrees m (held (stateOf (roundKeysOf k) nr m)) (AES words k)
-  state-holds h m = subst (Agrees m (held (stateOf (roundKeysOf k) nr m))) (kept h) (state-agrees (roundKeysOf k) nr m)
+  pub state-holds : KeyLength (length k) → (m : ℕ) → Agrees m (held (stateFor k m)) (AES words k)
+  state-holds h m = subst (Agrees m (held (stateFor k m))) (kept h) (state-agrees (roundKeysOf k) nr m)
 
 -- the first offset is a block, for the sizes that are admitted
 pub first-block : (K : Key) → Cipher K → (t : ℕ) (N : List ℕ) → NonceSize (length N) → TagSize t → Bytes N → Block (Offset-0 K t N)

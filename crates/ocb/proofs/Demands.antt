@@ -19,7 +19,7 @@ use Rattle.ocb_laws.proofs.RoundTrip.{decrypt-encrypt, encrypt-decrypt, decrypt
 use Rattle.ocb_laws.proofs.Calls.{encrypt-calls, decrypt-calls}
 use Rattle.ocb_variables.specs.declared.State.{State}
 use Rattle.ocb_variables.specs.Held.{held}
-use Rattle.ocb_variables.specs.State.{stateOf}
+use Rattle.ocb_variables.specs.State.{stateFor}
 use Rattle.ocb.specs.declared.SetUp.{SetUp}
 use Rattle.ocb.specs.declared.Answer.{Answer}
 use Rattle.ocb_numbers.specs.Numbers.{setUpNumber, sizeRules, refusal, count, InRange}
@@ -89,7 +89,7 @@ unfolding setUp sealed opened
 refused-forever k m u e h N A S T {r} {S'} {T'} =
     let two : asked (u .state) N A S T ≡ 2 =
     ap (λ (v : SetUp). asked (v .state) N A S T) e
-    ∙ never (setUpNumber (length k) m) (stateOf (roundKeysOf k) (roundsFor (length k)) m) (λ z. h (ap (λ (v : SetUp). v .number) e ∙ z)) (length N) (length A) (length S) (length T) in (
+    ∙ never (setUpNumber (length k) m) (stateFor k m) (λ z. h (ap (λ (v : SetUp). v .number) e ∙ z)) (length N) (length A) (length S) (length T) in (
       λ L. let M = subst (λ (n : ℕ). Leaves (unless n (sealRefused S T) (encrypted (held (u .state)) N A S T)) r S' T') two L in
           (M .number, M .calls, M .text-left, M .tag-left),
       λ L. let M = subst (λ (n : ℕ). Leaves (unless n (openRefused S T) (decrypted (held (u .state)) N A S T)) r S' T') two L in
@@ -113,13 +113,15 @@ module _ {k : List ℕ} {m : ℕ} {u : SetUp} (made : MadeFrom k m u) (N A S T :
       )
 
   pub open-rfc : Leaves (opened (u .state) N A S T) r S' T' → Told (OCB-DECRYPT (AES (length k / 4) k) (length T) N A (S ++ T)) S r S'
-  open-rfc L = told (decryption (AES (length k / 4) k) N A S T) (inputs (AES (length k / 4) k) N A S T) S T (subst (λ (o : Outcome). Leaves o r S' T') (open-is made N A S T sizes) L)
+  open-rfc L =
+      told (decryption (AES (length k / 4) k) N A S T) (inputs (AES (length k / 4) k) N A S T) S T (subst (λ (o : Outcome). Leaves o r S' T') (open-is made N A S T sizes) L)
 
   -- the count of calls is the number of blocks that RFC 7253's procedure hands to the cipher
   pub calls-seal : Leaves (sealed (u .state) N A S T) r S' T'
       → (r .calls ≡ length (OCB-ENCRYPT-inputs (AES (length k / 4) k) (length T) N A S)) × (r .calls ≡ count (length A) (length S))
   calls-seal L =
-      let e : r .calls ≡ length (OCB-ENCRYPT-inputs (AES (length k / 4) k) (length T) N A S) = L .calls ∙ ap (λ (o : Outcome). o .calls) (seal-is made N A S T sizes) in
+      let e : r .calls ≡ length (OCB-ENCRYPT-inputs (AES (length k / 4) k) (length T) N A S) =
+      L .calls ∙ ap (λ (o : Outcome). o .calls) (seal-is made N A S T sizes) in
       (e, e ∙ encrypt-calls (AES (length k / 4) k) (length T) N A S)
 
   pub calls-open : Leaves (opened (u .state) N A S T) r S' T'
@@ -159,7 +161,8 @@ module _ {k : List ℕ} {m : ℕ} {u : SetUp} (made : MadeFrom k m u) (N A S T :
   module _ {r : Answer} {S' T' : List ℕ} (L : Leaves (opened (u .state) N A S T) r S' T') where
     pub open-gives : r .number ≡ 0 → Encrypts k N A S' S T
     open-gives e =
-        let D : OCB-DECRYPT (AES (length k / 4) k) (length T) N A (S ++ T) ≡ VALID S' = accepted-text (decryption (AES (length k / 4) k) N A S T) S r S' (open-rfc made N A S T sizes L) e in
+        let D : OCB-DECRYPT (AES (length k / 4) k) (length T) N A (S ++ T) ≡ VALID S' =
+        accepted-text (decryption (AES (length k / 4) k) N A S T) S r S' (open-rfc made N A S T sizes L) e in
         record {
           plain-bytes = decrypt-bytes cipher (length T) N A (sizes .tag-size .to) first S T S' S-bytes refl D;
           gives = encrypt-decrypt cipher (length T) N A (sizes .tag-size .to) first S T S' S-bytes refl D;

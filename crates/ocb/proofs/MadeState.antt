@@ -5,15 +5,14 @@ use mathlib.Core.List.{List}
 use Prim.Native.Nat.{ℕ, zero, suc, _/_, _≤_}
 use native.Mathlib.Omega.{arith}
 use lib.ListN.{length, take, drop}
-use Rattle.sizes.specs.Sizes.{roundsFor, KeyLength, Rounds, places}
+use Rattle.sizes.specs.Sizes.{roundsFor, KeyLength, places}
 use Rattle.sizes.proofs.KeyLaws.{rounds-for}
 use Rattle.standards.specs.Strings.{Bytes}
 use Rattle.standards.specs.Rfc7253.{Plaintext}
 use Rattle.standards.specs.AesOcb.{AES}
-use Rattle.aes.specs.Schedule.{roundKeysOf}
 use Rattle.ocb_laws.proofs.Agree.{encrypt-agrees, encrypt-inputs-agree, decrypt-agrees, decrypt-inputs-agree}
 use Rattle.ocb_variables.specs.declared.State.{State}
-use Rattle.ocb_variables.specs.State.{stateOf}
+use Rattle.ocb_variables.specs.State.{stateOf, stateFor}
 use Rattle.ocb_variables.specs.Held.{held}
 use Rattle.ocb_variables.proofs.KeyLaws.{state-sized}
 use Rattle.ocb.specs.declared.SetUp.{SetUp}
@@ -24,12 +23,12 @@ use Rattle.ocb.specs.Terms.{MadeFrom, HoldsBytes}
 use Rattle.ocb_numbers.proofs.Refusals.{set-up-sizes, admits}
 use Rattle.ocb.proofs.AesKey.{state-holds}
 
-pub made-state : {k : List ℕ} {m : ℕ} {u : SetUp} → MadeFrom k m u → u .state ≡ stateOf (roundKeysOf k) (roundsFor (length k)) m
+pub made-state : {k : List ℕ} {m : ℕ} {u : SetUp} → MadeFrom k m u → u .state ≡ stateFor k m
 unfolding setUp
 made-state {k} {m} {u} made = ap (λ (v : SetUp). v .state) (made .promise) ∙ go (setUpNumber (length k) m) (sym (ap (λ (v : SetUp). v .number) (made .promise)) ∙ made .accepted)
   where
     s : State
-    s = stateOf (roundKeysOf k) (roundsFor (length k)) m
+    s = stateFor k m
 
     go : (n : ℕ) → madeUnless n s .number ≡ 0 → madeUnless n s .state ≡ s
     go zero e = refl
@@ -41,7 +40,7 @@ unfolding setUp
 made-sizes {k} {m} {u} made =
     set-up-sizes (length k) m (go (setUpNumber (length k) m) (sym (ap (λ (v : SetUp). v .number) (made .promise)) ∙ made .accepted))
   where
-    go : (n : ℕ) → madeUnless n (stateOf (roundKeysOf k) (roundsFor (length k)) m) .number ≡ 0 → n ≡ 0
+    go : (n : ℕ) → madeUnless n (stateFor k m) .number ≡ 0 → n ≡ 0
     go zero e = refl
     go (suc n) e = e
 
@@ -54,7 +53,7 @@ state-holds-bytes w rounds m h l =
 module _ {k : List ℕ} {m : ℕ} {u : SetUp} (made : MadeFrom k m u) (N A S T : List ℕ)
     (sizes : InRange m (length N) (length A) (length S) (length T)) where
   s : State
-  s = stateOf (roundKeysOf k) (roundsFor (length k)) m
+  s = stateFor k m
 
   long : KeyLength (length k)
   long = made-sizes made .0

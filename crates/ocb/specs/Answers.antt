@@ -3,14 +3,13 @@ use mathlib.Core.Path.{_≡_}
 use mathlib.Core.List.{List, _++_}
 use Prim.Native.Nat.{ℕ, zero, suc}
 use lib.ListN.{length, take, drop}
-use Rattle.sizes.specs.Sizes.{roundsFor, roundKeyBytes, tableBytes}
+use Rattle.sizes.specs.Sizes.{roundKeyBytes, tableBytes}
 use Rattle.standards.specs.Strings.{zeros}
 use Rattle.standards.specs.Rfc7253.{Key, Plaintext, VALID, INVALID, OCB-ENCRYPT, OCB-ENCRYPT-inputs, OCB-DECRYPT, OCB-DECRYPT-inputs}
-use Rattle.aes.specs.Schedule.{roundKeysOf}
 use Rattle.ocb_numbers.specs.Numbers.{setUpNumber, refusal}
 use Rattle.ocb_variables.specs.declared.State.{State}
 use Rattle.ocb_variables.specs.Held.{held}
-use Rattle.ocb_variables.specs.State.{stateOf}
+use Rattle.ocb_variables.specs.State.{stateFor}
 use Rattle.ocb.specs.declared.SetUp.{SetUp}
 use Rattle.ocb.specs.declared.Answer.{Answer}
 
@@ -29,7 +28,7 @@ madeUnless zero state = record { number = 0; state = state }
 madeUnless (suc n) state = record { number = suc n; state = zeroState }
 
 unfoldable pub setUp : List ℕ → ℕ → SetUp
-setUp key m = madeUnless (setUpNumber (length key) m) (stateOf (roundKeysOf key) (roundsFor (length key)) m)
+setUp key m = madeUnless (setUpNumber (length key) m) (stateFor key m)
 
 -- ---- seal and open: the number, the count of cipher calls, and the text and the tag as they stand afterwards
 

@@ -33,7 +33,8 @@ copied-whole S Z h e =
     ∙ append-nil S
 
 -- the fields, each read where it lies
-pub decode-made : {keys star dollar table : List ℕ} {rounds m : ℕ} (B : List ℕ) → keys ≡ take roundKeyBytes B → rounds ≡ num (take 8 (drop roundsAt B)) → star ≡ take 16 (drop starAt B)
+pub decode-made : {keys star dollar table : List ℕ} {rounds m : ℕ} (B : List ℕ)
+    → keys ≡ take roundKeyBytes B → rounds ≡ num (take 8 (drop roundsAt B)) → star ≡ take 16 (drop starAt B)
     → dollar ≡ take 16 (drop dollarAt B) → m ≡ num (take 8 (drop mAt B)) → table ≡ take tableBytes (drop tableAt B)
     → _≡_ {A = State} (record { «round_keys» = keys; values = record { rounds = rounds; star = star; dollar = dollar; m = m }; table = table }) (decoded B)
 unfolding decoded

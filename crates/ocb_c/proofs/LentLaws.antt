@@ -14,7 +14,7 @@ use Rattle.standards.specs.Strings.{Bytes}
 use Rattle.aes.specs.Schedule.{roundKeysOf}
 use Rattle.aes.proofs.Expansion.{round-keys-bytes, round-keys-length}
 use Rattle.ocb_variables.specs.declared.State.{State}
-use Rattle.ocb_variables.specs.State.{stateOf}
+use Rattle.ocb_variables.specs.State.{stateOf, stateFor}
 use Rattle.ocb_variables.proofs.KeyLaws.{state-sized}
 use Rattle.ocb.specs.declared.SetUp.{SetUp}
 use Rattle.ocb.specs.declared.Answer.{Answer}
@@ -77,7 +77,7 @@ refused-sizes : Sizes zeroState
 unfolding zeroState
 refused-sizes = record { keys = refl; star = refl; dollar = refl; rounds = lit< tt; places = lit< tt; table = refl }
 
-made-sizes : (key : List ℕ) (m : ℕ) → Bytes key → KeyLength (length key) → m ≤ places → Sizes (stateOf (roundKeysOf key) (roundsFor (length key)) m)
+made-sizes : (key : List ℕ) (m : ℕ) → Bytes key → KeyLength (length key) → m ≤ places → Sizes (stateFor key m)
 unfolding stateOf
 made-sizes key m bytes h hm =
     let made = state-sized (roundKeysOf key) (roundsFor (length key)) m (round-keys-bytes key bytes) hm in
@@ -95,7 +95,7 @@ state-sizes : (key : List ℕ) (m : ℕ) → Bytes key → Sizes (setUp key m .s
 unfolding setUp
 state-sizes key m bytes = go (setUpNumber (length key) m) refl
   where
-    go : (n : ℕ) → setUpNumber (length key) m ≡ n → Sizes (madeUnless n (stateOf (roundKeysOf key) (roundsFor (length key)) m) .state)
+    go : (n : ℕ) → setUpNumber (length key) m ≡ n → Sizes (madeUnless n (stateFor key m) .state)
     go zero e = let sizes = set-up-sizes (length key) m e in made-sizes key m bytes (sizes .0) (sizes .1 .to)
     go (suc n) e = refused-sizes
 

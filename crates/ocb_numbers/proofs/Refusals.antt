@@ -6,7 +6,7 @@ use Prim.Native.Nat.{ℕ, _+_, _*_, _%_, _^_, _≤_}
 use native.Mathlib.Nat.{one-mul, mod-eq-of-lt, lt-of-le-of-lt}
 use native.Mathlib.Omega.{arith}
 use borrow.Author.Tests.{ltb-false, leb-false, not-false, le-ltb, lt-leb}
-use lib.Dec.{ltb, leb, lit<, lit≤}
+use lib.Dec.{ltb, lit<, lit≤}
 use lib.Pow.{pow-mono}
 use Rattle.sizes.specs.Sizes.{keyLengths, roundNumbers, among, KeyLength, Rounds, places, nonceLeast, nonceMost, tagLeast, tagMost}
 use Rattle.ocb_numbers.specs.Numbers.{outside, limit, tooLong, setUpRules, setUpNumber, sizeRules, refusal, Inside, Fits, InRange}

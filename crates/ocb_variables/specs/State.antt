@@ -1,10 +1,12 @@
 -- The state that a key is made into (RFC 7253, section 4.1).
 use mathlib.Core.List.{List, [], _++_}
 use Prim.Native.Nat.{ℕ, zero, suc, _*_, _-_}
-use Rattle.sizes.specs.Sizes.{tableBytes}
+use lib.ListN.{length}
+use Rattle.sizes.specs.Sizes.{roundsFor, tableBytes}
 use Rattle.standards.specs.Strings.{zeros}
 use Rattle.standards.specs.Rfc7253.{double, doubled}
 use Rattle.aes.specs.Cipher.{enc}
+use Rattle.aes.specs.Schedule.{roundKeysOf}
 use Rattle.ocb_variables.specs.declared.State.{State}
 
 -- L_0 to L_(i-1), of L_$: L_i is L_$ doubled i + 1 times
@@ -21,3 +23,7 @@ unfoldable pub stateOf : List ℕ → ℕ → ℕ → State
 stateOf rk rounds m =
     let star : List ℕ = enc rounds rk (zeros 16) in
     record { «round_keys» = rk; table = tableOf (double star) m; values = record { rounds = rounds; m = m; star = star; dollar = double star } }
+
+-- of a key k and m places
+abbrev pub stateFor : List ℕ → ℕ → State
+stateFor k m = stateOf (roundKeysOf k) (roundsFor (length k)) m

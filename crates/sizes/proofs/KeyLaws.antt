@@ -22,7 +22,7 @@ of-any P (k ∷ ks) each n e = go (eqb n k) refl e (of-any P ks (each .1) n)
     go false p q others = others q
 
 -- what holds of 16, 24 and 32 holds of every key's length
-pub by-length : (P : ℕ → Type 0) → P 16 → P 24 → P 32 → {n : ℕ} → KeyLength n → P n
+by-length : (P : ℕ → Type 0) → P 16 → P 24 → P 32 → {n : ℕ} → KeyLength n → P n
 by-length P a b c {n} h = of-any P keyLengths (a, (b, (c, tt))) n (h .admitted)
 
 -- a key has 4 to 8 whole words

@@ -18,14 +18,16 @@ roundsFor n = n / 4 + 6
 abbrev pub roundNumbers : List ℕ
 roundNumbers = map roundsFor keyLengths
 
--- n is one of them
+-- n is one of a list
 abbrev pub among : List ℕ → ℕ → Bool
 among [] n = false
 among (k ∷ ks) n = eqb n k || among ks n
 
+-- n bytes are a key's length
 pub record KeyLength (n : ℕ) : Type 0 where
   pub admitted : among keyLengths n ≡ true
 
+-- nr rounds go with a key's length
 pub record Rounds (nr : ℕ) : Type 0 where
   pub admitted : among roundNumbers nr ≡ true
 

@@ -11,7 +11,7 @@ use Rattle.aes.specs.Schedule.{roundKeysOf}
 use Rattle.ocb_numbers.specs.Numbers.{setUpNumber, Inside}
 use Rattle.ocb_numbers.proofs.Refusals.{set-up-sizes}
 use Rattle.ocb_variables.specs.declared.State.{State}
-use Rattle.ocb_variables.specs.State.{stateOf}
+use Rattle.ocb_variables.specs.State.{stateOf, stateFor}
 use Rattle.ocb.specs.declared.SetUp.{SetUp}
 use Rattle.ocb.specs.Answers.{zeroState, madeUnless, setUp}
 use Rattle.ocb.proofs.set_up.Statement.{statement}
@@ -23,7 +23,7 @@ unfolding setUp
 refused {n} key m e h ez = ap (λ (s : State). record { number = n; state = s }) ez ∙ by n h ∙ ap (λ (k : ℕ). madeUnless k made) e
   where
     made : State
-    made = stateOf (roundKeysOf key) (roundsFor (length key)) m
+    made = stateFor key m
 
     by : (n : ℕ) → (n ≡ 0 → ⊥) → _≡_ {A = SetUp} (record { number = n; state = zeroState }) (madeUnless n made)
     by zero h = absurd (h refl)
@@ -33,8 +33,8 @@ made : {n nr : ℕ} {rk : List ℕ} {s : State} (key : List ℕ) (m : ℕ) → n
     → rk ≡ roundKeysOf key → s ≡ stateOf rk nr m → _≡_ {A = SetUp} (record { number = 0; state = s }) (setUp key m)
 unfolding setUp
 made {s = s} key m e z en er es =
-    let u : _≡_ {A = SetUp} (record { number = 0; state = s }) (record { number = 0; state = stateOf (roundKeysOf key) (roundsFor (length key)) m }) = cc in
-    u ∙ ap (λ (k : ℕ). madeUnless k (stateOf (roundKeysOf key) (roundsFor (length key)) m)) (sym z ∙ e)
+    let u : _≡_ {A = SetUp} (record { number = 0; state = s }) (record { number = 0; state = stateFor key m }) = cc in
+    u ∙ ap (λ (k : ℕ). madeUnless k (stateFor key m)) (sym z ∙ e)
 
 returns : tie.Need-returns
 returns c =

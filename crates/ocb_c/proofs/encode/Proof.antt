@@ -2,7 +2,7 @@
 use mathlib.Core.Path.{refl}
 use native.Mathlib.Omega.{arith}
 use borrow.Author.Needs.{needs}
-use lib.ListN.{length, length-append, length-take, length-drop}
+use lib.ListN.{length-append, length-take, length-drop}
 use Rattle.ocb_c.proofs.BufferLaws.{Sizes, encode-made}
 use Rattle.ocb_c.proofs.encode.Statement.{statement}
 use Rattle.ocb_c.proofs.encode.Tie as tie
