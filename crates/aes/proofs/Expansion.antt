@@ -84,12 +84,12 @@ module _ (k : List ℕ) where
   unfolding roundKeysOf
   round-keys-bytes h = bytes-append (keyExpansion words nr k) (zeros (roundKeyBytes - 16 * (nr + 1))) (expansion-bytes words nr k h) (bytes-zeros (roundKeyBytes - 16 * (nr + 1)))
 
-  -- as the code makes them: r rounds' words, and what is left of a place of zeros
-  pub round-keys-made : {r : ℕ} {w : List ℕ} → r ≡ nr → w ≡ schedule words k (4 * (r + 1) - words) → w ++ drop (4 * (4 * (r + 1))) (zeros roundKeyBytes) ≡ roundKeysOf k
+  -- as the code makes them: the n words of its rounds, and what is left of a place of zeros
+  pub round-keys-made : {n : ℕ} {w : List ℕ} → n ≡ 4 * (nr + 1) → w ≡ schedule words k (n - words) → w ++ drop (4 * n) (zeros roundKeyBytes) ≡ roundKeysOf k
   unfolding roundKeysOf keyExpansion
-  round-keys-made {r} er ew =
-      let place : 4 * (4 * (r + 1)) ≡ 16 * (nr + 1) = omega arith in
-      ap₂ _++_ (ew ∙ ap (λ (i : ℕ). schedule words k (4 * (i + 1) - words)) er)
+  round-keys-made {n} en ew =
+      let place : 4 * n ≡ 16 * (nr + 1) = omega arith in
+      ap₂ _++_ (ew ∙ ap (λ (i : ℕ). schedule words k (i - words)) en)
       (ap (λ (i : ℕ). drop i (zeros roundKeyBytes)) place ∙ drop-zeros (16 * (nr + 1)) roundKeyBytes)
 
   module _ (h : KeyLength (length k)) where

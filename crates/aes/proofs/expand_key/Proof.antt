@@ -39,7 +39,7 @@ expand-requires c κs =
 returns : tie.Need-returns
 returns c =
     let numbered = c .before .before .before .before .before in
-    round-keys-made (numbered .before .before .before .before .args .key .now) (numbered .rounds-for .ensures) (c .before .expand .ensures)
+    round-keys-made (numbered .before .before .before .before .args .key .now) (omega (arith, numbered .rounds-for .ensures)) (c .before .expand .ensures)
 
 pub expand-key-spec : {M : Type 1} → statement M
 expand-key-spec =
