@@ -5,7 +5,7 @@ use mathlib.Core.List.{List}
 use Prim.Native.Nat.{ℕ, zero, suc, _/_, _≤_}
 use native.Mathlib.Omega.{arith}
 use lib.ListN.{length, take, drop}
-use Rattle.sizes.specs.Sizes.{roundsFor, KeyLength, places}
+use Rattle.sizes.specs.Sizes.{roundsFor, KeyLength, mMost}
 use Rattle.sizes.proofs.KeyLaws.{rounds-for}
 use Rattle.standards.specs.Strings.{Bytes}
 use Rattle.standards.specs.Rfc7253.{Plaintext}
@@ -34,8 +34,8 @@ made-state {k} {m} {u} made = ap (λ (v : SetUp). v .state) (made .promise) ∙ 
     go zero e = refl
     go (suc n) e = absurd (omega arith)
 
--- its key has an admitted length, and m is a number of places
-pub made-sizes : {k : List ℕ} {m : ℕ} {u : SetUp} → MadeFrom k m u → KeyLength (length k) × Inside 1 places m
+-- its key has an admitted length, and m is in range
+pub made-sizes : {k : List ℕ} {m : ℕ} {u : SetUp} → MadeFrom k m u → KeyLength (length k) × Inside 1 mMost m
 unfolding setUp
 made-sizes {k} {m} {u} made =
     set-up-sizes (length k) m (go (setUpNumber (length k) m) (sym (ap (λ (v : SetUp). v .number) (made .promise)) ∙ made .accepted))
@@ -44,7 +44,7 @@ made-sizes {k} {m} {u} made =
     go zero e = refl
     go (suc n) e = e
 
-pub state-holds-bytes : (w : List ℕ) (rounds m : ℕ) → Bytes w → m ≤ places → HoldsBytes (stateOf w rounds m)
+pub state-holds-bytes : (w : List ℕ) (rounds m : ℕ) → Bytes w → m ≤ mMost → HoldsBytes (stateOf w rounds m)
 unfolding stateOf
 state-holds-bytes w rounds m h l =
     let sized = state-sized w rounds m h l in

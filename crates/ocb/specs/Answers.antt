@@ -15,7 +15,7 @@ use Rattle.ocb.specs.declared.Answer.{Answer}
 
 -- ---- set_up
 
--- zeros: no rounds and no places, which seal and open answer with 2
+-- zeros: no rounds and m = 0, which seal and open answer with 2
 unfoldable pub zeroState : State
 zeroState = record {
   «round_keys» = zeros roundKeyBytes;

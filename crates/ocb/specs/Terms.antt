@@ -11,7 +11,7 @@ use Rattle.ocb.specs.declared.SetUp.{SetUp}
 use Rattle.ocb.specs.declared.Answer.{Answer}
 use Rattle.ocb.specs.Answers.{setUp}
 
--- u is what set_up answers for the key k and m places, and it is not refused: its state is made from that key
+-- u is what set_up answers for the key k and m, and it is not refused: its state is made from that key
 pub record MadeFrom (k : List ℕ) (m : ℕ) (u : SetUp) : Type 0 where
   pub promise : u ≡ setUp k m
   pub accepted : u .number ≡ 0

@@ -46,7 +46,7 @@ fn zero_state() -> State
     }
 }
 
-// The state of a key of 16, 24 or 32 bytes, with m places for L values, 1 to 26.
+// The state of a key of 16, 24 or 32 bytes, for texts and data of at most 2^m blocks; m is 1 to 26.
 pub fn set_up(key: &[u8], m: usize) -> SetUp
     ensures { λ r. ⌜ r ≡ setUp (now (key .entry)) m ⌝ }
 {

@@ -20,7 +20,7 @@ pub record Sizes (s : State) : Type 0 where
   pub rounds : s .values .rounds < 256 ^ 8
   pub star : length (s .values .star) ≡ 16
   pub dollar : length (s .values .dollar) ≡ 16
-  pub places : s .values .m < 256 ^ 8
+  pub m : s .values .m < 256 ^ 8
   pub table : length (s .table) ≡ tableBytes
 
 -- ---- reading
@@ -67,7 +67,7 @@ decode-encode s h =
     (sym (number-read B _ roundsAt (v .rounds) at-rounds (h .rounds)))
     (sym (ap (take 16) at-star ∙ take-at (v .star) _ 16 (h .star)))
     (sym (ap (take 16) at-dollar ∙ take-at (v .dollar) _ 16 (h .dollar)))
-    (sym (number-read B _ mAt (v .m) at-m (h .places)))
+    (sym (number-read B _ mAt (v .m) at-m (h .m)))
     (sym (ap (take tableBytes) at-table ∙ take-all tableBytes (s .table) (omega (arith, h .table)))))
 
 -- ---- writing

@@ -8,7 +8,7 @@ use native.Mathlib.Omega.{arith}
 use borrow.Author.Tests.{eqb-true, not-false, eq-eqb, ne-eqb}
 use lib.Dec.{eqb, lit<, lit≤}
 use lib.ListN.{length}
-use Rattle.sizes.specs.Sizes.{roundsFor, KeyLength, places}
+use Rattle.sizes.specs.Sizes.{roundsFor, KeyLength, mMost}
 use Rattle.sizes.proofs.KeyLaws.{rounds-for, rounds-within}
 use Rattle.standards.specs.Strings.{Bytes}
 use Rattle.aes.specs.Schedule.{roundKeysOf}
@@ -75,9 +75,9 @@ module _ {n : ℕ} (B : List ℕ) (e : n ≡ sizeNumber B) where
 
 refused-sizes : Sizes zeroState
 unfolding zeroState
-refused-sizes = record { keys = refl; star = refl; dollar = refl; rounds = lit< tt; places = lit< tt; table = refl }
+refused-sizes = record { keys = refl; star = refl; dollar = refl; rounds = lit< tt; m = lit< tt; table = refl }
 
-made-sizes : (key : List ℕ) (m : ℕ) → Bytes key → KeyLength (length key) → m ≤ places → Sizes (stateFor key m)
+made-sizes : (key : List ℕ) (m : ℕ) → Bytes key → KeyLength (length key) → m ≤ mMost → Sizes (stateFor key m)
 unfolding stateOf
 made-sizes key m bytes h hm =
     let made = state-sized (roundKeysOf key) (roundsFor (length key)) m (round-keys-bytes key bytes) hm in
@@ -87,7 +87,7 @@ made-sizes key m bytes h hm =
       rounds = omega arith;
       star = made .star .size;
       dollar = made .dollar .size;
-      places = omega arith;
+      m = omega arith;
       table = made .table;
     }
 

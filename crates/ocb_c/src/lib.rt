@@ -91,7 +91,7 @@ fn refuse_size(buffer: &[u8]) -> usize
 
 // ---- The entry points
 
-// Makes the state of a key of 16, 24 or 32 bytes, with m places for L values, 1 to 26, in the buffer.
+// Makes the state of a key of 16, 24 or 32 bytes in the buffer, for texts and data of at most 2^m blocks; m is 1 to 26.
 #[no_mangle]
 pub extern "C" fn ocb_set_up(state: &mut [u8], key: &[u8], m: usize) -> usize
     ensures { λ r. ⌜ Kept (setUpIn (now (state .entry)) (now (key .entry)) m) r (now (state .exit)) ⌝ }

@@ -1,9 +1,9 @@
--- The procedures look at L_0 to L_{m-1} alone while a string is within m: two keys that agree there give one result.
+-- The procedures look at L_0 to L_m alone while a string is within m: two keys that agree there give one result.
 -- Each offset is the same, by induction; all else is made of offsets.
 -- Assumes nothing.
 use mathlib.Core.Path.{_≡_, refl, sym, ap, ap₂, _∙_, subst}
 use mathlib.Core.List.{List, [], _∷_, _++_}
-use Prim.Native.Nat.{ℕ, zero, suc, _-_, _<_}
+use Prim.Native.Nat.{ℕ, zero, suc, _-_, _≤_}
 use native.Mathlib.Nat.{zero-lt-suc}
 use native.Mathlib.Omega.{arith}
 use lib.ListN.{length, take, length-append}
@@ -19,7 +19,7 @@ pub record Agrees (m : ℕ) (K K' : Key) : Type 0 where
   pub deciphers : K .DECIPHER ≡ K' .DECIPHER
   pub star : K .L-* ≡ K' .L-*
   pub dollar : K .L-$ ≡ K' .L-$
-  pub table : (i : ℕ) → i < m → K .L i ≡ K' .L i
+  pub table : (i : ℕ) → i ≤ m → K .L i ≡ K' .L i
 
 -- K with other L values
 abbrev with : Key → (ℕ → List ℕ) → Key
@@ -33,7 +33,7 @@ by-cases : {X : Type 0} (F G : List ℕ → X) → F [] ≡ G [] → ((x : ℕ) 
 by-cases F G none some [] = none
 by-cases F G none some (x ∷ S) = some x S
 
-module _ (K : Key) (L : ℕ → List ℕ) (m : ℕ) (agree : (i : ℕ) → i < m → K .L i ≡ L i) where
+module _ (K : Key) (L : ℕ → List ℕ) (m : ℕ) (agree : (i : ℕ) → i ≤ m → K .L i ≡ L i) where
   offset-same : (O : List ℕ) (i : ℕ) → Reach m i → Offset K O i ≡ Offset (with K L) O i
   unfolding Offset
   offset-same O zero h = refl
@@ -149,7 +149,7 @@ module _ (K : Key) (L : ℕ → List ℕ) (m : ℕ) (agree : (i : ℕ) → i < m
 
 -- a key that agrees is the first with other L values
 carry : {X : Type 0} (m : ℕ) (K K' : Key) (F : Key → X) → Agrees m K K'
-    → ((L : ℕ → List ℕ) → ((i : ℕ) → i < m → K .L i ≡ L i) → F K ≡ F (with K L)) → F K ≡ F K'
+    → ((L : ℕ → List ℕ) → ((i : ℕ) → i ≤ m → K .L i ≡ L i) → F K ≡ F (with K L)) → F K ≡ F K'
 carry m K K' F a changed =
     let e : with K (K' .L) ≡ with K' (K' .L) = cc in
     changed (K' .L) (a .table) ∙ ap F e

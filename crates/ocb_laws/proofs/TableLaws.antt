@@ -2,11 +2,11 @@
 use mathlib.Core.Path.{_≡_}
 use mathlib.Core.List.{List}
 use Prim.Native.Nat.{ℕ, _+_, _*_, _/_, _^_, _<_, _≤_}
-use native.Mathlib.Nat.{lt-of-lt-of-le}
+use native.Mathlib.Nat.{le-trans}
 use native.Mathlib.Omega.{arith}
 use lib.ListN.{length}
 use lib.Pow.{pow-add, pow-mono}
-use Rattle.sizes.specs.Sizes.{places, tableBytes}
+use Rattle.sizes.specs.Sizes.{mMost, tableBytes}
 use Rattle.standards.specs.Rfc7253.{ntz, wholes}
 use Rattle.block.proofs.NtzLaws.{ntz-below}
 use Rattle.ocb_numbers.specs.Numbers.{Fits, InTable}
@@ -24,8 +24,8 @@ unfolding wholes
 wholes-reach m S f = fits-reach f
 
 -- the place asked for is filled
-pub in-place : {m i : ℕ} → InTable m i → ntz i < m
-in-place {m} {i} t = ntz-below m i (t .counted) (t .early)
+pub in-place : {m i : ℕ} → InTable m i → ntz i ≤ m
+in-place {m} {i} t = let e : 2 ^ (m + 1) ≡ 2 ^ m * 2 = pow-add 2 m 1 in omega (arith, ntz-below (m + 1) i (t .counted) (omega (arith, t .counted, t .early)))
 
 -- and lies within the table
 pub place-within : {m i : ℕ} → InTable m i → ntz i * 16 + 16 ≤ tableBytes
@@ -36,5 +36,5 @@ pub in-earlier : {m i j : ℕ} → InTable m i → 0 < j → j ≤ i → InTable
 in-earlier t p l = record { filled = t .filled; counted = p; early = omega (arith, t .early) }
 
 -- a block's number is a small one
-pub number-fits : {m i : ℕ} → InTable m i → i < 2 ^ places
-number-fits t = lt-of-lt-of-le (t .early) (pow-mono (t .filled))
+pub number-fits : {m i : ℕ} → InTable m i → i ≤ 2 ^ mMost
+number-fits t = le-trans (t .early) (pow-mono (t .filled))

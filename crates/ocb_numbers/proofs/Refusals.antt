@@ -5,10 +5,10 @@ use mathlib.Core.Bool.{Bool, true, false, not, _||_}
 use Prim.Native.Nat.{ℕ, _+_, _*_, _%_, _^_, _≤_}
 use native.Mathlib.Nat.{one-mul, mod-eq-of-lt, lt-of-le-of-lt}
 use native.Mathlib.Omega.{arith}
-use borrow.Author.Tests.{ltb-false, leb-false, not-false, le-ltb, lt-leb}
+use borrow.Author.Tests.{ltb-false, not-false, le-ltb}
 use lib.Dec.{ltb, lit<, lit≤}
 use lib.Pow.{pow-mono}
-use Rattle.sizes.specs.Sizes.{keyLengths, roundNumbers, among, KeyLength, Rounds, places, nonceLeast, nonceMost, tagLeast, tagMost}
+use Rattle.sizes.specs.Sizes.{keyLengths, roundNumbers, among, KeyLength, Rounds, mMost, nonceLeast, nonceMost, tagLeast, tagMost}
 use Rattle.ocb_numbers.specs.Numbers.{outside, limit, tooLong, setUpRules, setUpNumber, sizeRules, refusal, Inside, Fits, InRange}
 use Rattle.ocb_numbers.proofs.RuleLaws.{Numbered, first-none, none-applies, first-most}
 
@@ -26,19 +26,19 @@ not-outside least most n i = simp (le-ltb n least (i .from), le-ltb most n (i .t
 
 -- ---- within the limit
 
-fits : (m n : ℕ) → m ≤ places → tooLong m n ≡ false → Fits m n
-fits m n h e = record { filled = h; short = leb-false (limit m) n e }
+fits : (m n : ℕ) → m ≤ mMost → tooLong m n ≡ false → Fits m n
+fits m n h e = record { filled = h; short = ltb-false (limit m) n e }
 
 not-too-long : {m n : ℕ} → Fits m n → tooLong m n ≡ false
-not-too-long {m} {n} f = lt-leb (limit m) n (f .short)
+not-too-long {m} {n} f = le-ltb (limit m) n (f .short)
 
 -- ---- set_up
 
-pub set-up-sizes : (key m : ℕ) → setUpNumber key m ≡ 0 → KeyLength key × Inside 1 places m
+pub set-up-sizes : (key m : ℕ) → setUpNumber key m ≡ 0 → KeyLength key × Inside 1 mMost m
 unfolding setUpNumber
 set-up-sizes key m e =
     let none = none-applies 2 (setUpRules key m) (lit< tt, lit≤ tt, (lit< tt, lit≤ tt, tt)) e in
-    (record { admitted = not-false (among keyLengths key) (none .0) }, inside 1 places m (none .1 .0))
+    (record { admitted = not-false (among keyLengths key) (none .0) }, inside 1 mMost m (none .1 .0))
 
 -- ---- seal and open
 
@@ -51,7 +51,7 @@ module _ (m rounds nonce ad text tag : ℕ) where
   unfolding refusal
   in-range e =
       let none = none-applies 6 (sizeRules m rounds nonce ad text tag) (numbered m rounds nonce ad text tag) e in
-      let filled = inside 1 places m (none .0) in
+      let filled = inside 1 mMost m (none .0) in
       let sizes = none .1 .1 in (
         record { admitted = not-false (among roundNumbers rounds) (none .1 .0) },
         record {
@@ -68,7 +68,7 @@ module _ (m rounds nonce ad text tag : ℕ) where
   unfolding refusal
   admits r a =
       first-none (sizeRules m rounds nonce ad text tag) (
-        not-outside 1 places m (a .filled),
+        not-outside 1 mMost m (a .filled),
         (
           ap not (r .admitted),
           (
@@ -84,7 +84,20 @@ module _ (m rounds nonce ad text tag : ℕ) where
   refusal-most = first-most 6 (sizeRules m rounds nonce ad text tag) (numbered m rounds nonce ad text tag)
 
 -- the limit as the code shifts it
-pub limit-is : (m : ℕ) → m ≤ places → 1 * 2 ^ (m + 4) % 2 ^ 64 ≡ limit m
+pub limit-is : (m : ℕ) → m ≤ mMost → 1 * 2 ^ (m + 4) % 2 ^ 64 ≡ limit m
 limit-is m h =
     ap (λ (x : ℕ). x % 2 ^ 64) (one-mul (2 ^ (m + 4)))
     ∙ mod-eq-of-lt (lt-of-le-of-lt (pow-mono {j = 30} (omega arith)) (lit< tt))
+
+-- ---- both sides of the limit, computed
+
+-- the number by m, data and text, with 10 rounds, a nonce of 12 bytes and a tag of 16
+abbrev numberBy : ℕ → ℕ → ℕ → ℕ
+numberBy m ad text = refusal m 10 12 ad text 16
+
+-- by 32 bytes for m = 1, by 2^30 for m = 26; where both are too long the text's number is given
+pub limit-edges :
+    (numberBy 1 0 32 ≡ 0) × (numberBy 1 0 33 ≡ 5) × (numberBy 1 32 0 ≡ 0) × (numberBy 1 33 0 ≡ 6) × (numberBy 1 32 32 ≡ 0) × (numberBy 1 33 33 ≡ 5)
+    × (numberBy 26 1073741824 1073741824 ≡ 0) × (numberBy 26 0 1073741825 ≡ 5) × (numberBy 26 1073741825 0 ≡ 6)
+unfolding refusal
+limit-edges = (refl, refl, refl, refl, refl, refl, refl, refl, refl)

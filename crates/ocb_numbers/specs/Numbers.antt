@@ -3,8 +3,8 @@
 use mathlib.Core.Bool.{Bool, cond, not, _||_}
 use mathlib.Core.List.{List, [], _∷_}
 use Prim.Native.Nat.{ℕ, _+_, _/_, _^_, _<_, _≤_}
-use lib.Dec.{ltb, leb}
-use Rattle.sizes.specs.Sizes.{keyLengths, roundNumbers, among, places, nonceLeast, nonceMost, tagLeast, tagMost}
+use lib.Dec.{ltb}
+use Rattle.sizes.specs.Sizes.{keyLengths, roundNumbers, among, mMost, nonceLeast, nonceMost, tagLeast, tagMost}
 
 -- ---- The numbers: each with the test that gives it. The first rule that applies gives its number; where none does, the number is 0.
 
@@ -24,17 +24,17 @@ first (rule ∷ rules) = cond (rule .applies) (rule .number) (first rules)
 abbrev pub outside : ℕ → ℕ → ℕ → Bool
 outside least most n = ltb n least || ltb most n
 
--- THE LIMIT: with m places filled, texts and data are shorter than this many bytes
+-- THE LIMIT: texts and data have at most this many bytes, 2^m blocks
 abbrev pub limit : ℕ → ℕ
 limit m = 2 ^ (m + 4)
 
 -- n bytes are too many
 abbrev pub tooLong : ℕ → ℕ → Bool
-tooLong m n = leb (limit m) n
+tooLong m n = ltb (limit m) n
 
 -- of set_up, by the key's size and m
 abbrev pub setUpRules : ℕ → ℕ → List Rule
-setUpRules key m = (1 if not (among keyLengths key)) ∷ (2 if outside 1 places m) ∷ []
+setUpRules key m = (1 if not (among keyLengths key)) ∷ (2 if outside 1 mMost m) ∷ []
 
 unfoldable pub setUpNumber : ℕ → ℕ → ℕ
 setUpNumber key m = first (setUpRules key m)
@@ -42,7 +42,7 @@ setUpNumber key m = first (setUpRules key m)
 -- of seal and open alike, by the state's m and rounds, and by the sizes
 abbrev pub sizeRules : ℕ → ℕ → ℕ → ℕ → ℕ → ℕ → List Rule
 sizeRules m rounds nonce ad text tag =
-    (2 if outside 1 places m) ∷ (2 if not (among roundNumbers rounds)) ∷ (3 if outside nonceLeast nonceMost nonce) ∷ (4 if outside tagLeast tagMost tag)
+    (2 if outside 1 mMost m) ∷ (2 if not (among roundNumbers rounds)) ∷ (3 if outside nonceLeast nonceMost nonce) ∷ (4 if outside tagLeast tagMost tag)
     ∷ (5 if tooLong m text) ∷ (6 if tooLong m ad) ∷ []
 
 unfoldable pub refusal : ℕ → ℕ → ℕ → ℕ → ℕ → ℕ → ℕ
@@ -63,18 +63,18 @@ TagSize = Inside tagLeast tagMost
 
 -- n bytes are within m
 pub record Fits (m n : ℕ) : Type 0 where
-  pub filled : m ≤ places
-  pub short : n < limit m
+  pub filled : m ≤ mMost
+  pub short : n ≤ limit m
 
--- the L value of block i stands in a table of which m places are filled
+-- the L value of block i is one of L_0 to L_m
 pub record InTable (m i : ℕ) : Type 0 where
-  pub filled : m ≤ places
+  pub filled : m ≤ mMost
   pub counted : 0 < i
-  pub early : i < 2 ^ m
+  pub early : i ≤ 2 ^ m
 
 -- the sizes that are admitted
 pub record InRange (m nonce ad text tag : ℕ) : Type 0 where
-  pub filled : Inside 1 places m
+  pub filled : Inside 1 mMost m
   pub nonce-size : NonceSize nonce
   pub ad-size : Fits m ad
   pub text-size : Fits m text

@@ -4,7 +4,7 @@ use mathlib.Core.Path.{_≡_, refl, ap, _∙_}
 use mathlib.Core.List.{List}
 use Prim.Native.Nat.{ℕ, _≤_}
 use lib.ListN.{length}
-use Rattle.sizes.specs.Sizes.{places, tableBytes}
+use Rattle.sizes.specs.Sizes.{mMost, tableBytes}
 use Rattle.standards.specs.Strings.{zeros, Bytes, Block}
 use Rattle.standards.specs.Rfc7253.{keyed, double}
 use Rattle.block.proofs.StringLaws.{block-zeros}
@@ -34,7 +34,7 @@ pub record Sized (s : State) : Type 0 where
   pub table : length (s .table) ≡ tableBytes
   pub bytes : Bytes (s .table)
 
-pub state-sized : (rk : List ℕ) (rounds m : ℕ) → Bytes rk → m ≤ places → Sized (stateOf rk rounds m)
+pub state-sized : (rk : List ℕ) (rounds m : ℕ) → Bytes rk → m ≤ mMost → Sized (stateOf rk rounds m)
 unfolding stateOf
 state-sized rk rounds m hrk h =
     let star : List ℕ = enc rounds rk (zeros 16) in

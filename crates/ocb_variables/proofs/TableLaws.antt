@@ -9,7 +9,7 @@ use native.Mathlib.Numerals.{add-one}
 use native.Mathlib.Omega.{arith}
 use lib.ListN.{length, take, drop, length-append, length-replicate}
 use lib.Seq.{take-at, drop-at, drop-drop}
-use Rattle.sizes.specs.Sizes.{places, tableBytes}
+use Rattle.sizes.specs.Sizes.{mMost, tableBytes}
 use Rattle.standards.specs.Strings.{zeros, Bytes}
 use Rattle.standards.specs.Rfc7253.{double, doubled, blockAt}
 use Rattle.block.proofs.StringLaws.{drop-zeros, bytes-none, bytes-append, bytes-zeros}
@@ -29,13 +29,14 @@ unfolding rows
 rows-bytes d zero = bytes-none
 rows-bytes d (suc m) = bytes-append (rows d m) (doubled (suc m) d) (rows-bytes d m) (doubled-block m d .bytes)
 
-pub table-length : (d : List ℕ) (m : ℕ) → m ≤ places → length (tableOf d m) ≡ tableBytes
+pub table-length : (d : List ℕ) (m : ℕ) → m ≤ mMost → length (tableOf d m) ≡ tableBytes
 unfolding tableOf
-table-length d m h = simp (length-append, length-replicate, rows-length d m) (omega arith)
+table-length d m h = simp (length-append, length-replicate, rows-length d (m + 1)) (omega arith)
 
 pub table-bytes : (d : List ℕ) (m : ℕ) → Bytes (tableOf d m)
 unfolding tableOf
-table-bytes d m = bytes-append (rows d m) (zeros (tableBytes - m * 16)) (rows-bytes d m) (bytes-zeros (tableBytes - m * 16))
+table-bytes d m =
+    bytes-append (rows d (m + 1)) (zeros (tableBytes - (m + 1) * 16)) (rows-bytes d (m + 1)) (bytes-zeros (tableBytes - (m + 1) * 16))
 
 -- ---- row i, whatever stands behind the rows
 
@@ -58,9 +59,9 @@ row-at d (suc m) i behind h =
         ∙ take-at (doubled (suc m) d) behind 16 (doubled-block m d .size)
         ∙ ap (λ (k : ℕ). doubled (suc k) d) (sym e)
 
-pub table-at : (d : List ℕ) (m i : ℕ) → i < m → blockAt (tableOf d m) i ≡ doubled (suc i) d
+pub table-at : (d : List ℕ) (m i : ℕ) → i ≤ m → blockAt (tableOf d m) i ≡ doubled (suc i) d
 unfolding tableOf
-table-at d m i h = row-at d m i (zeros (tableBytes - m * 16)) h
+table-at d m i h = row-at d (m + 1) i (zeros (tableBytes - (m + 1) * 16)) (omega arith)
 
 -- ---- the loop that fills the table
 
@@ -100,6 +101,6 @@ filled-more d before t l t' l' i F el et =
       last = made ∙ ap (λ (k : ℕ). doubled k d) (sym (add-one i));
     }
 
-pub filled-all : (d t l : List ℕ) (m : ℕ) → Filled d (zeros tableBytes) t l m → t ≡ tableOf d m
+pub filled-all : (d t l : List ℕ) (m : ℕ) → Filled d (zeros tableBytes) t l (m + 1) → t ≡ tableOf d m
 unfolding tableOf
-filled-all d t l m F = F .table ∙ ap (λ (S : List ℕ). rows d m ++ S) (drop-zeros (m * 16) tableBytes)
+filled-all d t l m F = F .table ∙ ap (λ (S : List ℕ). rows d (m + 1) ++ S) (drop-zeros ((m + 1) * 16) tableBytes)

@@ -8,7 +8,7 @@ use sizes::Table;
 ghost use mathlib.Core.Path.{_≡_};
 ghost use Prim.Native.Nat.{_≤_, _<_};
 ghost use lib.ListN.{length};
-ghost use Rattle.sizes.specs.Sizes.{Rounds, places};
+ghost use Rattle.sizes.specs.Sizes.{Rounds, mMost};
 ghost use Rattle.standards.specs.InBytes.{nonceBlock, stretchOf, cutOf, initialOffset};
 ghost use Rattle.aes.specs.Cipher.{enc, EnciphersWith};
 ghost use Rattle.ocb_variables.specs.State.{tableOf, stateOf};
@@ -16,7 +16,7 @@ ghost use Rattle.ocb_variables.specs.Nonce.{Admitted, variablesOf, bitsF
 
 // ---- Key-dependent variables
 
-// What goes by value wherever round keys and table are lent: the number of rounds, L_*, L_$, and how many places of the table are filled.
+// What goes by value wherever round keys and table are lent: the number of rounds, L_*, L_$, and m: the table is filled to L_m.
 pub struct KeyValues {
     pub rounds: usize,
     pub star: Block,
@@ -24,22 +24,22 @@ pub struct KeyValues {
     pub m: usize,
 }
 
-// What a key is made into. Block i of the table is L_i for the first m places; the others are zero.
+// What a key is made into. Block i of the table is L_i up to L_m; the others are zero.
 pub struct State {
     pub round_keys: RoundKeys,
     pub values: KeyValues,
     pub table: Table,
 }
 
-// The table of L_0 to L_(m-1): each L is the double of the one before, and L_0 that of L_$.
+// The table of L_0 to L_m: each L is the double of the one before, and L_0 that of L_$.
 fn l_table(dollar: Block, m: usize) -> Table
-    requires { ⌜ m ≤ places ⌝ }
+    requires { ⌜ m ≤ mMost ⌝ }
     ensures { λ r. ⌜ r ≡ tableOf dollar m ⌝ }
 {
     let mut table = [0u8; TABLE_BYTES];
     let mut l = dollar;
     let mut i = 0;
-    while i < m {
+    while i <= m {
         let next = block::double(l);
         block::store(&mut table, i * 16, next);
         l = next;
@@ -55,7 +55,7 @@ pub fn key_dependent_variables(
     rounds: usize,
     m: usize,
 ) -> State
-    requires { ⌜ (EnciphersWith (now tables)) × (Rounds rounds) × (m ≤ places) ⌝ }
+    requires { ⌜ (EnciphersWith (now tables)) × (Rounds rounds) × (m ≤ mMost) ⌝ }
     ensures { λ r. ⌜ r ≡ stateOf rk rounds m ⌝ }
 {
     let zero = [0u8; 16];

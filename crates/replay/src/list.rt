@@ -117,7 +117,7 @@ fn call_under(fd: i32, state: &[u8], opens: bool) -> Step {
 fn next_call(fd: i32) -> Step {
     let mut way = [0u8; 1];
     let way_read = read_frame(fd, &mut way);
-    let mut state = [0u8; 712];
+    let mut state = [0u8; 728];
     let state_read = read_frame(fd, &mut state);
     if !(way_read.whole & state_read.whole) {
         return Step::Cut;

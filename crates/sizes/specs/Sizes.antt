@@ -40,11 +40,11 @@ roundKeyBytes = 16 * (mostRounds + 1)
 
 -- ---- OCB3
 
-abbrev pub places : ℕ
-places = 26
+abbrev pub mMost : ℕ
+mMost = 26
 
 abbrev pub tableBytes : ℕ
-tableBytes = 16 * places
+tableBytes = 16 * (mMost + 1)
 
 abbrev pub nonceLeast : ℕ
 nonceLeast = 6

@@ -26,11 +26,11 @@ pub type RoundKeys = [u8; ROUND_KEY_BYTES];
 
 // ---- OCB3 (RFC 7253, section 4)
 
-// L_0 to L_25: the table of every state has this many places, of a block each. A text or data of 2^30 bytes or more is never taken, so no block's number
-// has more than 25 trailing zeros.
-pub const PLACES: usize = 26;
+// The greatest m. A state of m serves texts and data of at most 2^m blocks: no block's number has more than m trailing zeros, so it keeps L_0 to L_m.
+pub const M_MOST: usize = 26;
 
-pub const TABLE_BYTES: usize = 16 * PLACES;
+// The place of the L values: sixteen bytes for each of L_0 to L_26.
+pub const TABLE_BYTES: usize = 16 * (M_MOST + 1);
 
 pub type Table = [u8; TABLE_BYTES];
 

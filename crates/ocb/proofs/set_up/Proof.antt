@@ -5,7 +5,7 @@ use mathlib.Core.List.{List}
 use Prim.Native.Nat.{ℕ, zero, suc}
 use borrow.Author.Needs.{needs}
 use lib.ListN.{length}
-use Rattle.sizes.specs.Sizes.{roundsFor, KeyLength, Rounds, places}
+use Rattle.sizes.specs.Sizes.{roundsFor, KeyLength, Rounds, mMost}
 use Rattle.sizes.proofs.KeyLaws.{rounds-for}
 use Rattle.aes.specs.Schedule.{roundKeysOf}
 use Rattle.ocb_numbers.specs.Numbers.{setUpNumber, Inside}
@@ -42,7 +42,7 @@ returns c =
     let a = asked .before .before .args in
     refused (a .key .now) (a .m) (asked .refuse-set-up .ensures) (c .before .if1 .taken) (c .zero-state .ensures)
 
-sizes : (c : tie.Else1) → let a = c .before .before .before .args in KeyLength (length (a .key .now)) × Inside 1 places (a .m)
+sizes : (c : tie.Else1) → let a = c .before .before .before .args in KeyLength (length (a .key .now)) × Inside 1 mMost (a .m)
 sizes c = let a = c .before .before .before .args in set-up-sizes (length (a .key .now)) (a .m) (sym (c .before .refuse-set-up .ensures) ∙ c .if1 .left)
 
 expand-key-requires : tie.Need-expand-key-requires

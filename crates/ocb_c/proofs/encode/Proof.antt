@@ -9,7 +9,7 @@ use Rattle.ocb_c.proofs.encode.Tie as tie
 
 -- the sizes that the types say, taken where nothing else is in sight
 sizes : (start : tie.Start) → Sizes (start .args .s)
-sizes start = record { keys = search needs; rounds = search needs; star = search needs; dollar = search needs; places = search needs; table = search needs }
+sizes start = record { keys = search needs; rounds = search needs; star = search needs; dollar = search needs; m = search needs; table = search needs }
 
 copy-at-requires : tie.Need-copy-at-requires
 copy-at-requires c κs =

@@ -2,9 +2,11 @@
 use mathlib.Core.Path.{sym, ap, _∙_}
 use mathlib.Core.Bool.{not}
 use mathlib.Core.List.{List}
+use native.Mathlib.Omega.{arith}
 use borrow.Author.Needs.{needs}
-use Rattle.sizes.specs.Sizes.{places}
-use Rattle.ocb_numbers.specs.Numbers.{Rule, sizeRules, refusal, Inside}
+use borrow.Author.Tests.{lt-ltb, le-ltb}
+use Rattle.sizes.specs.Sizes.{mMost}
+use Rattle.ocb_numbers.specs.Numbers.{Rule, limit, sizeRules, refusal, Inside}
 use Rattle.ocb_numbers.proofs.RuleLaws.{NoneBefore, none-to, first-at, first-none}
 use Rattle.ocb_numbers.proofs.Refusals.{inside}
 use Rattle.ocb_numbers.proofs.refuse.Statement.{statement}
@@ -43,11 +45,13 @@ abbrev start-5 : tie.Else5 → tie.Start
 start-5 c = start-4 (c .before .before)
 
 none-5 : (c : tie.Else5) → NoneBefore 5 (rules (start-5 c))
-none-5 c = none-to 4 (rules (start-5 c)) (none-4 (c .before .before)) (sym (c .before .too-long .ensures) ∙ c .if5 .left)
+none-5 c =
+    let a = start-5 c .args in
+    none-to 4 (rules (start-5 c)) (none-4 (c .before .before)) (le-ltb (limit (a .m)) (a .text) (omega (arith, c .before .limit .ensures)))
 
--- m is then a number of places
-filled : (c : tie.Else1) → Inside 1 places (start-1 c .args .m)
-filled c = inside 1 places (start-1 c .args .m) (none-1 c .0)
+-- m is then in range
+filled : (c : tie.Else1) → Inside 1 mMost (start-1 c .args .m)
+filled c = inside 1 mMost (start-1 c .args .m) (none-1 c .0)
 
 -- ---- what is returned
 
@@ -77,20 +81,23 @@ returns-5 : tie.Need-returns-5
 unfolding refusal
 returns-5 c =
     let let-through = c .before .before in
-    sym (first-at 4 (rules (start-4 let-through)) (none-4 let-through) (sym (c .before .too-long .ensures) ∙ c .if5 .taken))
+    let a = start-4 let-through .args in
+    sym (first-at 4 (rules (start-4 let-through)) (none-4 let-through) (lt-ltb (limit (a .m)) (a .text) (omega (arith, c .before .limit .ensures))))
 
 returns-6 : tie.Need-returns-6
 unfolding refusal
 returns-6 c =
     let let-through = c .before .before in
-    sym (first-at 5 (rules (start-5 let-through)) (none-5 let-through) (sym (c .before .too-long2 .ensures) ∙ c .if6 .taken))
+    let a = start-5 let-through .args in
+    sym (first-at 5 (rules (start-5 let-through)) (none-5 let-through) (lt-ltb (limit (a .m)) (a .ad) (omega (arith, c .before .limit2 .ensures))))
 
 returns-7 : tie.Need-returns-7
 unfolding refusal
 returns-7 c =
     let let-through = c .before .before in
+    let a = start-5 let-through .args in
     let asked = rules (start-5 let-through) in
-    sym (first-none asked (none-to 5 asked (none-5 let-through) (sym (c .before .too-long2 .ensures) ∙ c .if6 .left)))
+    sym (first-none asked (none-to 5 asked (none-5 let-through) (le-ltb (limit (a .m)) (a .ad) (omega (arith, c .before .limit2 .ensures)))))
 
 pub refuse-spec : {M : Type 1} → statement M
 refuse-spec =

@@ -1,6 +1,6 @@
 -- `ocb_variables::l_table` meets its contract. The loop's invariant: `i` rows are laid over the zeros, and `l` is the last of them. Assumes nothing.
 use mathlib.Core.Path.{_≡_, refl, subst, _∙_}
-use Prim.Native.Nat.{_-_, _≤_}
+use Prim.Native.Nat.{_+_, _-_, _≤_}
 use native.Mathlib.Omega.{arith}
 use borrow.Author.Needs.{needs}
 use lib.ListN.{length}
@@ -11,10 +11,10 @@ use Rattle.ocb_variables.proofs.l_table.Statement.{statement}
 use Rattle.ocb_variables.proofs.l_table.Tie as tie
 
 abbrev Inv-loop : tie.InvT-loop
-Inv-loop m table₀ l₀ i₀ table l i = (i ≤ m) × (length table ≡ tableBytes) × Filled l₀ (zeros tableBytes) table l i
+Inv-loop m table₀ l₀ i₀ table l i = (i ≤ m + 1) × (length table ≡ tableBytes) × Filled l₀ (zeros tableBytes) table l i
 
 abbrev μ-loop : tie.MeasureT-loop
-μ-loop m table₀ l₀ i₀ table l i = m - i
+μ-loop m table₀ l₀ i₀ table l i = m + 1 - i
 
 loop-holds : tie.Need-loop-holds Inv-loop μ-loop
 loop-holds c = (search needs, refl, filled-none (c .args .dollar) (zeros tableBytes))
@@ -52,7 +52,7 @@ returns : tie.Need-returns Inv-loop μ-loop
 returns c =
     let s = c .before .before in
     let l = c .before .loop in
-    let e : l .i ≡ s .args .m = omega arith in
+    let e : l .i ≡ s .args .m + 1 = omega arith in
     filled-all (s .args .dollar) (l .table) (l .l) (s .args .m) (subst (Filled (s .args .dollar) (zeros tableBytes) (l .table) (l .l)) e (l .inv .2))
 
 pub l-table-spec : {M : Type 1} → statement M
