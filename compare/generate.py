@@ -73,7 +73,7 @@ class Generator:
         yield self.sealed(seal).encoded()
 
     def fitting_m(self, length):
-        return self.random.choice([m for m in ADMITTED_M if length < paper.limit(m)])
+        return self.random.choice([m for m in ADMITTED_M if length <= paper.limit(m)])
 
     def flipped(self, body, bit=None):
         """One bit changed: this one, or any."""
@@ -128,11 +128,11 @@ class Generator:
                     yield good._replace(tag=self.flipped(good.tag)).encoded()
 
     def faults_together(self):
-        """Every choice of wrong and right sizes, both ways: the smallest number is given."""
+        """Every choice of wrong and right sizes, both ways: the smallest number is given. Text and data of a right size have exactly the limit."""
         for choice in range(64):
             wrong = [choice >> place & 1 for place in range(6)]
             m, key = 0 if wrong[1] else 1, self.key_length - wrong[0]
-            yield from self.both_ways(self.fresh(m, 32 if wrong[5] else 31, 32 if wrong[4] else 31, 5 if wrong[2] else 6, 0 if wrong[3] else 1, key))
+            yield from self.both_ways(self.fresh(m, 33 if wrong[5] else 32, 33 if wrong[4] else 32, 5 if wrong[2] else 6, 0 if wrong[3] else 1, key))
 
     def last_nonce_bytes(self):
         """Every value of the six bits that cut the first offset out of Stretch, and every nonce length."""

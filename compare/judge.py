@@ -11,7 +11,7 @@ from script import Trouble
 
 # The outcomes of a comparison with the crate. A star marks sizes that the crate cannot be asked: its types reject them, or m is over 27, for which its
 # driver has no instance. There the port is held to the paper's table alone.
-OUTCOMES = ("agreed", "D1", "D2", "D4*", "D5", "D5*")
+OUTCOMES = ("agreed", "D1", "D2", "D3", "D4*", "D5", "D5*")
 
 
 class Unexplained(Exception):
@@ -60,8 +60,9 @@ def answers(command, raws, name):
     return outputs
 
 
-def by_crate(case, crate):
-    """The answer (None: bad case) that the port owes, given what the crate said, and the outcome that this counts as."""
+def by_crate(case, crate, openssl):
+    """The answer (None: bad case) that the port owes, given what the crate said, and the outcome that this counts as. At exactly the limit, where the crate
+    gives no answer, OpenSSL's is owed."""
     if case is None:
         if crate.words != "bad case":
             raise Unexplained("the crate's driver takes the case for a good one")
@@ -70,6 +71,8 @@ def by_crate(case, crate):
     untouched = (crate.text, crate.tag) == (case.text, case.tag)
     if number:
         return Answer(number, 0, case.text, case.tag), refused_by_crate(case, number, crate.words, untouched)
+    if at_the_limit(case):
+        return by_openssl(case, crate, openssl), unserved_by_crate(case, crate.words, untouched)
     if crate.words == "answer 0" and (not case.open or crate.tag == case.tag):
         return Answer(0, crate.calls, crate.text, crate.tag), "agreed"
     if crate.words == "answer 7" and case.open and crate.tag == case.tag:
@@ -90,19 +93,26 @@ def refused_by_crate(case, number, words, untouched):
         return "D5"
     if number in (5, 6) and words == "error" and untouched:
         return "agreed"
-    if number in (5, 6) and words == "panic" and case.open and max(len(case.text), len(case.data)) == paper.limit(case.m):
-        return "D2"
     raise Unexplained(f"the crate says '{words}' where the paper refuses with {number}")
 
 
-def sealed_at_the_limit(case):
-    """D3: both refuse, against the crate's documentation."""
-    return case is not None and not case.open and paper.refusal(case) in (5, 6) and max(len(case.text), len(case.data)) == paper.limit(case.m)
+def at_the_limit(case):
+    """Whether a case that is worked on has a text or data of exactly the limit."""
+    return max(len(case.text), len(case.data)) == paper.limit(case.m)
 
 
-def by_openssl(case, openssl, crate):
-    """The answer that the port owes but for its count, or None where OpenSSL is not asked: it knows none of the paper's refusals. The crate's text must be
-    the same, also after a wrong tag."""
+def unserved_by_crate(case, words, untouched):
+    """The outcome at exactly the limit: the crate's open reads a place behind its table, and its seal refuses."""
+    if case.open and words == "panic":
+        return "D2"
+    if not case.open and words == "error" and untouched:
+        return "D3"
+    raise Unexplained(f"the crate says '{words}' at exactly the limit")
+
+
+def by_openssl(case, crate, openssl):
+    """The answer that the port owes, with the paper's count, or None where OpenSSL is not asked: it knows none of the paper's refusals. The crate's text must
+    be the same, also after a wrong tag, unless the case is one of exactly the limit."""
     if case is None or paper.refusal(case):
         return None
     if case.open:
@@ -111,6 +121,6 @@ def by_openssl(case, openssl, crate):
     else:
         text, tag = openssl.seal(case.key, case.nonce, case.data, case.text, len(case.tag))
         accepted = True
-    if (crate.words, crate.text, crate.tag) != ("answer 0" if accepted else "answer 7", text, tag):
+    if not at_the_limit(case) and (crate.words, crate.text, crate.tag) != ("answer 0" if accepted else "answer 7", text, tag):
         raise Unexplained("the crate and OpenSSL differ")
-    return Answer(0, 0, text, tag) if accepted else Answer(7, 0, bytes(len(text)), tag)
+    return Answer(0, paper.calls(case), text, tag) if accepted else Answer(7, paper.calls(case), bytes(len(text)), tag)

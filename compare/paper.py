@@ -6,8 +6,8 @@
 | 2 | m is not in 1 to 26, or the state's number of rounds is not 10, 12 or 14 |
 | 3 | the nonce is not of 6 to 15 bytes |
 | 4 | the tag is not of 1 to 16 bytes |
-| 5 | the text has 2^(m+4) bytes or more |
-| 6 | the data has 2^(m+4) bytes or more |
+| 5 | the text has more than 2^(m+4) bytes |
+| 6 | the data has more than 2^(m+4) bytes |
 
 The smallest number that applies is given, with no cipher call and nothing changed. 0 is done; 7 is an open whose tag differs, with the text cleared.
 """
@@ -17,6 +17,7 @@ KEY_LENGTHS = tuple(ROUNDS)
 
 
 def limit(m):
+    """The bytes of 2^m blocks, the longest text and the longest data that a table of size m serves."""
     return 1 << (m + 4)
 
 
@@ -30,9 +31,9 @@ def refusal(case):
         return 3
     if not 1 <= len(case.tag) <= 16:
         return 4
-    if len(case.text) >= limit(case.m):
+    if len(case.text) > limit(case.m):
         return 5
-    if len(case.data) >= limit(case.m):
+    if len(case.data) > limit(case.m):
         return 6
     return 0
 
