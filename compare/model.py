@@ -126,7 +126,7 @@ def double(block):
     return (number ^ (number >> 128) * (1 << 128 | 0x87)).to_bytes(16, "big")
 
 
-BUFFER = struct.Struct(">240sQ16s16sQ416s")  # a state as it lies in the buffer that crate ocb_c takes
+BUFFER = struct.Struct(">240sQ16s16sQ432s")  # a state as it lies in the buffer that crate ocb_c takes
 
 
 class State(NamedTuple):
@@ -151,14 +151,14 @@ class State(NamedTuple):
 
 
 def made(key, m):
-    """The state that set-up makes of a key."""
+    """The state that set-up makes of a key, with L_0 to L_m."""
     keys = expanded(key)
     star = encipher(keys, bytes(16))
     dollar = double(star)
     entries = [double(dollar)]
-    while len(entries) < m:
+    while len(entries) <= m:
         entries.append(double(entries[-1]))
-    return State(keys.ljust(240, b"\0"), len(keys) // 16 - 1, star, dollar, m, b"".join(entries).ljust(416, b"\0"))
+    return State(keys.ljust(240, b"\0"), len(keys) // 16 - 1, star, dollar, m, b"".join(entries).ljust(432, b"\0"))
 
 
 def first_offset(state, nonce, tag_length):

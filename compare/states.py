@@ -70,7 +70,7 @@ class Maker:
 
     def any_state(self, rounds, m):
         """Random bytes that no key makes."""
-        return State(self.random.randbytes(240), rounds, *map(self.random.randbytes, (16, 16)), m, self.random.randbytes(416))
+        return State(self.random.randbytes(240), rounds, *map(self.random.randbytes, (16, 16)), m, self.random.randbytes(432))
 
     def calls(self):
         for key_length, rounds in paper.ROUNDS.items():
@@ -81,11 +81,13 @@ class Maker:
 
     def arbitrary(self, rounds):
         for m in range(1, 27):
-            most = min(paper.limit(m) - 1, 150)
+            most = min(paper.limit(m), 150)
             lengths = self.random.randrange(most + 1), self.random.randrange(most + 1)
             yield from self.every_way(self.seal(self.any_state(rounds, m), *lengths, 6 + m % 10, 1 + m % 16))
         for byte, m in ((b"\0", 1), (b"\0", 26), (b"\xff", 26)):
-            yield from self.every_way(self.seal(State(240 * byte, rounds, 16 * byte, 16 * byte, m, 416 * byte), 20, 31))
+            yield from self.every_way(self.seal(State(240 * byte, rounds, 16 * byte, 16 * byte, m, 432 * byte), 20, 32))
+        for m in range(1, 6):  # 2^m blocks use L_0 to L_m
+            yield from self.every_way(self.seal(self.any_state(rounds, m), paper.limit(m), paper.limit(m)))
         yield from self.every_way(self.seal(self.any_state(rounds, 26), 1031, 1031))  # L_0 to L_6
 
     def altered(self, key_length):
@@ -98,9 +100,9 @@ class Maker:
         for rounds in paper.ROUNDS.values():
             if rounds != right.rounds:  # zeros for round keys, or not all that the key made
                 yield from self.every_way(self.seal(right._replace(rounds=rounds), 20, 20))
-        for row in (0, 1, 2, 3, 25):  # L_0 to L_2 are used by seven blocks
-            yield from self.every_way(self.seal(right._replace(table=self.with_row(right.table, row)), 115, 117))
-        yield from self.every_way(self.seal(right._replace(m=26), 140, 140))  # L_3 is a row of zeros
+        for row in (0, 1, 2, 3, 4, 26):  # L_0 to L_3 are used by eight blocks
+            yield from self.every_way(self.seal(right._replace(table=self.with_row(right.table, row)), 128, 128))
+        yield from self.every_way(self.seal(right._replace(m=26), 260, 260))  # L_4 is a row of zeros
 
     def with_row(self, rows, place):
         """Rows of sixteen bytes with other bytes in one of them."""
@@ -114,10 +116,10 @@ class Maker:
         state = self.any_state(rounds, 1)
         for m in (0, 27, 255, 256, 257, (1 << 32) + 1, 1 << 63, (1 << 64) - 1):
             yield from self.both(self.seal(state._replace(m=m), 3, 5))
-        for data, text, nonce, tag in ((31, 31, 5, 16), (31, 31, 16, 16), (31, 31, 12, 0), (31, 31, 12, 17), (31, 32, 12, 16), (32, 31, 12, 16)):
+        for data, text, nonce, tag in ((32, 32, 5, 16), (32, 32, 16, 16), (32, 32, 12, 0), (32, 32, 12, 17), (32, 33, 12, 16), (33, 32, 12, 16)):
             yield from self.both(self.seal(state, data, text, nonce, tag))
         right = self.seal(state, 3, 5)
-        for buffer in (b"", right.state[:-1], right.state + b"\0"):
+        for buffer in (b"", right.state[:-16], right.state[:-1], right.state + b"\0"):  # nothing, without the last row, a byte less and more
             for call in (right, right._replace(nonce=b"")):
                 yield from self.both(call._replace(state=buffer))
 
@@ -129,7 +131,7 @@ class Maker:
         for right in paper.ROUNDS.values():
             for rounds in (right + (1 << 8), right + (1 << 32), right + (1 << 63), right << 56, (1 << 64) - right):
                 yield from self.both(self.seal(self.any_state(rounds, 1), 3, 5))
-        yield from self.both(self.seal(self.any_state((1 << 64) - 1, 27), 32, 32, 5, 0))
+        yield from self.both(self.seal(self.any_state((1 << 64) - 1, 27), 33, 33, 5, 0))
         short = self.seal(self.any_state(0, 1), 3, 5)
         yield from self.both(short._replace(state=short.state[:-1]))
         yield from self.both(short._replace(state=bytes(BUFFER.size)))
