@@ -1,5 +1,5 @@
 //! The crate over AES-128, AES-192 and AES-256 with a count of the blocks that it hands to the cipher. Its sizes are types, so each combination is an instance
-//! of its own: nonces of 6 to 15 bytes, tags of 1 to 16, tables of 0 to 27 places. A table of 0 or of 27 is outside what the port admits, but the crate
+//! of its own: nonces of 6 to 15 bytes, tags of 1 to 16, tables of size 0 to 27. A size of 0 or of 27 is outside what the port admits, but the crate
 //! compiles with it. Which of the ciphers stands behind the count is found when it runs, so that they share the instances.
 
 use std::cell::Cell;
