@@ -23,8 +23,9 @@ extern "C" {
 
 /* The bytes of a state buffer. ocb_state_size() gives the same number when the program runs. What lies where in it is nobody's business but
  * the library's and may change with its version, and so may the size: do not store states or send them, but set up anew from the key. */
-#define OCB_STATE_SIZE 704
-/* The most places for L values: with m places, texts and data are shorter than 2^(m + 4) bytes. */
+#define OCB_STATE_SIZE 720
+/* The most that m may be. The table of L values has a place for L_0 and m places behind it, for L_1 to L_m: it serves texts and data of at most
+ * 2^(m + 4) bytes. */
 #define OCB_MOST_PLACES 26
 
 /* What the functions return. Of 0 to 7 the smallest that applies is given; 40 goes before them all. */
@@ -35,8 +36,8 @@ enum ocb_number {
                             * seal and open: the state's m is not in 1..26, or its rounds are not 10, 12 or 14; nothing is changed */
     OCB_NONCE_SIZE = 3,    /* the nonce is not 6 to 15 bytes; nothing is changed */
     OCB_TAG_SIZE = 4,      /* the tag is not 1 to 16 bytes; nothing is changed */
-    OCB_TEXT_SIZE = 5,     /* the text is not shorter than 2^(m + 4) bytes; nothing is changed */
-    OCB_DATA_SIZE = 6,     /* the associated data are not shorter than 2^(m + 4) bytes; nothing is changed */
+    OCB_TEXT_SIZE = 5,     /* the text has more than 2^(m + 4) bytes; nothing is changed */
+    OCB_DATA_SIZE = 6,     /* the associated data have more than 2^(m + 4) bytes; nothing is changed */
     OCB_TAG_DIFFERS = 7,   /* open: the tag is not the text's; every byte of the text is zero */
     OCB_STATE_LENGTH = 40  /* the state buffer is not OCB_STATE_SIZE bytes; nothing is changed */
 };
@@ -46,8 +47,8 @@ enum ocb_number {
 /* The size of a state buffer: OCB_STATE_SIZE. */
 size_t ocb_state_size(void);
 
-/* Makes the state of a key of 16, 24 or 32 bytes in the buffer, with m places for L values (1 to 26; 26 serves every size admitted).
- * Returns 0, 1, 2 or 40. The state holds the round keys: keep it as secret as the key. */
+/* Makes the state of a key of 16, 24 or 32 bytes in the buffer, for texts and data of at most 2^(m + 4) bytes (m from 1 to 26; 26 serves every
+ * size admitted). Returns 0, 1, 2 or 40. The state holds the round keys: keep it as secret as the key. */
 size_t ocb_set_up(uint8_t *state, size_t state_length, const uint8_t *key, size_t key_length, size_t m);
 
 /* Seals the text where it lies and writes the tag, whose length is the tag place's. Never use a nonce twice under one key.
@@ -69,7 +70,7 @@ static inline const char *ocb_message(size_t number) {
     switch (number) {
     case OCB_DONE: return "done";
     case OCB_KEY_SIZE: return "the key is not 16, 24 or 32 bytes";
-    case OCB_PLACES: return "the number of places is not 1 to 26, or the state's rounds are not 10, 12 or 14";
+    case OCB_PLACES: return "m is not 1 to 26, or the state's rounds are not 10, 12 or 14";
     case OCB_NONCE_SIZE: return "the nonce is not 6 to 15 bytes";
     case OCB_TAG_SIZE: return "the tag is not 1 to 16 bytes";
     case OCB_TEXT_SIZE: return "the text is too long for the places";

@@ -1,14 +1,15 @@
 /* What only a caller from C can get wrong, or what only include/ocb.h adds: keys and state buffers of other lengths, states of any bytes, NULL for
- * nothing, the texts of the numbers; and an answer known from elsewhere for each key length. Ends with status 1 at the first wrong answer. It is
- * C and C++, to be linked with the linker's --wrap=ocb_set_up,--wrap=ocb_seal,--wrap=ocb_open: every call of the archive then goes through the
- * functions __wrap_.. below. */
+ * nothing, the texts of the numbers; an answer known from elsewhere for each key length and for the most that m = 1 admits; and the L values that
+ * a state has for each m. Ends with status 1 at the first wrong answer. It is C and C++, to be linked with the linker's
+ * --wrap=ocb_set_up,--wrap=ocb_seal,--wrap=ocb_open: every call of the archive then goes through the functions __wrap_.. below. */
 #include <ocb.h>
 #include <stdio.h>
 #include <stdlib.h>
 #include <string.h>
 
 enum { STATE = OCB_STATE_SIZE, TEXT = 40 };
-enum { ROUNDS = 240, M = 280 }; /* where a state has its rounds and its m, 8 bytes each, the highest byte first */
+enum { ROUNDS = 240, M = 280 };     /* where a state has its rounds and its m, 8 bytes each, the highest byte first */
+enum { DOLLAR = 264, TABLE = 288 }; /* and L_$ and its L values from L_0 on, 16 bytes each */
 
 static void expect(int holds, const char *what) {
     if (holds) return;
@@ -60,11 +61,18 @@ static void lengths_of_the_key(void) {
         int taken = n == 16 || n == 24 || n == 32;
         size_t with_places = taken ? OCB_DONE : OCB_KEY_SIZE, without = taken ? OCB_PLACES : OCB_KEY_SIZE;
         memset(state, 5, sizeof state);
-        expect(ocb_set_up(state, STATE, longest, n, 27) == without && !memcmp(state, zeros, STATE), "set up with 27 places and a key of some length");
+        expect(ocb_set_up(state, STATE, longest, n, 27) == without && !memcmp(state, zeros, STATE), "set up with m = 27 and a key of some length");
         memset(state, 5, sizeof state);
         expect(ocb_set_up(state, STATE, longest, n, 26) == with_places, "set up with a key of some length");
         expect(taken || !memcmp(state, zeros, STATE), "a key of another length left no zeros");
     }
+}
+
+/* Whether a text and its tag of 16 bytes are these in hexadecimal, the tag behind the text. */
+static int are(const uint8_t *text, size_t length, const uint8_t *tag, const char *sealed) {
+    char hex[2 * (TEXT + 16) + 1];
+    for (size_t i = 0; i < length + 16; i++) snprintf(hex + 2 * i, 3, "%02x", i < length ? text[i] : tag[i - length]);
+    return !strcmp(hex, sealed);
 }
 
 /* 40 bytes of text and of data under a key of each length, which count up from 0. The first answer is RFC 7253's, appendix A. It has no samples of
@@ -79,17 +87,61 @@ static void an_answer_for_each_key_length(void) {
         {32, "4cf8f8f885db86893ff518086d149f0c1546ebef5cc9a1dec375ea2770754b1f595448474b661dd37e1a5a800d577bf389b87b957d316209"},
     };
     uint8_t state[STATE], text[TEXT], tag[16], sample[12];
-    char sealed[2 * (TEXT + 16) + 1];
     size_t calls;
     memcpy(sample, nonce, 12), sample[11] = 0x0d;
     for (size_t i = 0; i < sizeof rows / sizeof *rows; i++) {
         expect(ocb_set_up(state, STATE, key, rows[i].key_length, 26) == OCB_DONE, "set up refused");
         memcpy(text, counting, TEXT);
         expect(ocb_seal(state, STATE, sample, 12, counting, TEXT, text, TEXT, tag, 16, &calls) == OCB_DONE && calls == 8, "seal of 40 bytes");
-        for (size_t k = 0; k < TEXT + 16; k++) snprintf(sealed + 2 * k, 3, "%02x", k < TEXT ? text[k] : tag[k - TEXT]);
-        expect(!strcmp(sealed, rows[i].sealed), "seal of 40 bytes gave something else");
+        expect(are(text, TEXT, tag, rows[i].sealed), "seal of 40 bytes gave something else");
         expect(ocb_open(state, STATE, sample, 12, counting, TEXT, text, TEXT, tag, 16, &calls) == OCB_DONE && calls == 8, "open of 40 bytes");
         expect(!memcmp(text, counting, TEXT), "opening did not undo sealing");
+    }
+}
+
+/* m = 1 admits 32 bytes of text and of data, whose second block uses L_1: the answer is RFC 7253's, appendix A. Of either 33 are refused. */
+static void the_most_that_m_admits(void) {
+    const struct {
+        size_t text, data, number;
+    } refused[] = {{33, 0, OCB_TEXT_SIZE}, {33, 33, OCB_TEXT_SIZE}, {32, 33, OCB_DATA_SIZE}, {0, 33, OCB_DATA_SIZE}};
+    uint8_t state[STATE], text[TEXT], tag[16], sample[12];
+    size_t calls;
+    memcpy(sample, nonce, 12), sample[11] = 0x0a;
+    memcpy(text, counting, TEXT);
+    expect(ocb_set_up(state, STATE, key, 16, 1) == OCB_DONE, "set up refused");
+    expect(ocb_seal(state, STATE, sample, 12, counting, 32, text, 32, tag, 16, &calls) == OCB_DONE && calls == 6, "m = 1: seal of 32 bytes");
+    expect(are(text, 32, tag, "bd6f6c496201c69296c11efd138a467abd3c707924b964deaffc40319af5a48540fbba186c5553c68ad9f592a79a4240"),
+           "m = 1: seal of 32 bytes gave something else");
+    expect(ocb_open(state, STATE, sample, 12, counting, 32, text, 32, tag, 16, &calls) == OCB_DONE && calls == 6, "m = 1: open of 32 bytes");
+    expect(!memcmp(text, counting, TEXT), "opening did not undo sealing");
+    memset(tag, 6, sizeof tag);
+    for (size_t i = 0; i < sizeof refused / sizeof *refused; i++) {
+        size_t n = refused[i].text, d = refused[i].data, wanted = refused[i].number;
+        calls = 9;
+        expect(ocb_seal(state, STATE, sample, 12, counting, d, text, n, tag, 16, &calls) == wanted && calls == 0, "m = 1: seal of 33 bytes");
+        calls = 9;
+        expect(ocb_open(state, STATE, sample, 12, counting, d, text, n, tag, 16, &calls) == wanted && calls == 0, "m = 1: open of 33 bytes");
+        expect(!memcmp(text, counting, TEXT) && tag[0] == 6 && tag[15] == 6, "a refusal changed something");
+    }
+}
+
+/* double of RFC 7253, section 2, in place. */
+static void doubled(uint8_t block[16]) {
+    int carry = block[0] >> 7;
+    for (size_t i = 0; i < 15; i++) block[i] = (uint8_t)(block[i] << 1 | block[i + 1] >> 7);
+    block[15] = (uint8_t)(block[15] << 1 ^ carry * 0x87);
+}
+
+/* L_0 is L_$ doubled, and each up to L_m is the one before it doubled (RFC 7253, section 4.1); the later of the 27 places are zero. */
+static void places_of_a_state(void) {
+    uint8_t state[STATE], l[16];
+    for (size_t m = 1; m <= 26; m++) {
+        expect(ocb_set_up(state, STATE, key, 16, m) == OCB_DONE, "set up refused");
+        memcpy(l, state + DOLLAR, 16);
+        for (size_t i = 0; i < 27; i++) {
+            doubled(l);
+            expect(!memcmp(state + TABLE + 16 * i, i <= m ? l : zeros, 16), "a place of the table has something else");
+        }
     }
 }
 
@@ -128,7 +180,7 @@ static void any_bytes_as_a_state(void) {
         memset(state + M, 0, 7), state[M + 7] = (uint8_t)m;
         if (higher) state[(higher == 1 ? ROUNDS : M) + any() % 7] = 1;
         int taken = !higher && (rounds == 10 || rounds == 12 || rounds == 14) && 1 <= m && m <= 26;
-        size_t wanted = !taken ? OCB_PLACES : TEXT < 16 << m ? OCB_DONE : OCB_TEXT_SIZE;
+        size_t wanted = !taken ? OCB_PLACES : TEXT <= 16 << m ? OCB_DONE : OCB_TEXT_SIZE;
         memset(text, 5, sizeof text);
         expect(ocb_seal(state, STATE, nonce, 12, data, 4, text, TEXT, tag, 16, &calls) == wanted, "seal with a state of any bytes");
         expect(ocb_open(state, STATE, nonce, 12, data, 4, text, TEXT, tag, 16, &calls) == wanted, "open with a state of any bytes");
@@ -167,7 +219,7 @@ static void texts_of_the_numbers(void) {
     const struct {
         size_t number;
         const char *has;
-    } rows[] = {{OCB_DONE, "done"}, {OCB_KEY_SIZE, "key"}, {OCB_PLACES, "places is"}, {OCB_NONCE_SIZE, "nonce"}, {OCB_TAG_SIZE, "tag is"},
+    } rows[] = {{OCB_DONE, "done"}, {OCB_KEY_SIZE, "key"}, {OCB_PLACES, "m is"}, {OCB_NONCE_SIZE, "nonce"}, {OCB_TAG_SIZE, "tag is"},
                 {OCB_TEXT_SIZE, "text"}, {OCB_DATA_SIZE, "data"}, {OCB_TAG_DIFFERS, "tag differs"}, {OCB_STATE_LENGTH, "state"}, {8, "no number"}};
     for (size_t i = 0; i < sizeof rows / sizeof *rows; i++) expect(strstr(ocb_message(rows[i].number), rows[i].has) != NULL, "a number has another's text");
 }
@@ -175,10 +227,12 @@ static void texts_of_the_numbers(void) {
 int main(void) {
     lengths_of_the_key();
     an_answer_for_each_key_length();
+    the_most_that_m_admits();
+    places_of_a_state();
     lengths_of_the_state();
     any_bytes_as_a_state();
     null_for_nothing();
     texts_of_the_numbers();
-    puts("check: each key length gives its known answer; other lengths, states of any bytes and NULL are answered; each number has its text");
+    puts("check: each key length and m = 1 give their known answers; other lengths, states of any bytes and NULL are answered; each number has its text");
     return 0;
 }

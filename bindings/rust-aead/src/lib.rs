@@ -20,7 +20,7 @@ pub type Aes192Ocb3<NonceSize = U12, TagSize = U16> = Ocb3<NonceSize, TagSize, U
 /// OCB3 over AES-256: keys of 32 bytes.
 pub type Aes256Ocb3<NonceSize = U12, TagSize = U16> = Ocb3<NonceSize, TagSize, U32>;
 
-/// The state of a key, for nonces and tags of these sizes and texts and data shorter than 2^30 bytes. A key size that AES does not have does not
+/// The state of a key, for nonces and tags of these sizes and texts and data of at most 2^30 bytes. A key size that AES does not have does not
 /// compile:
 ///
 /// ```compile_fail

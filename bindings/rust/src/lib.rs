@@ -9,9 +9,9 @@ use core::sync::atomic::{compiler_fence, Ordering};
 pub const TAG_SIZE: usize = 16;
 
 /// The bytes of a key's state.
-pub const STATE_SIZE: usize = 704;
+pub const STATE_SIZE: usize = 720;
 
-/// The most places for L values, which serve texts and data shorter than 2^30 bytes.
+/// The most that `m` of [`Ocb3::with_places`] may be, for texts and data of at most 2^30 bytes.
 pub const MOST_PLACES: usize = 26;
 
 mod linked {
@@ -52,15 +52,15 @@ mod linked {
 pub enum Error {
     /// 1: the key is not 16, 24 or 32 bytes.
     KeySize,
-    /// 2: the number of places is not 1 to 26, or the state's rounds are not 10, 12 or 14; set up writes no others.
+    /// 2: `m` is not 1 to 26, or the state's rounds are not 10, 12 or 14; set up writes no others.
     Places,
     /// 3: the nonce is not 6 to 15 bytes.
     NonceSize,
     /// 4: the tag is not 1 to 16 bytes.
     TagSize,
-    /// 5: the text is too long for the places.
+    /// 5: the text has more than 2^(m + 4) bytes.
     TextSize,
-    /// 6: the associated data are too long for the places.
+    /// 6: the associated data have more than 2^(m + 4) bytes.
     DataSize,
     /// 7: the tag is not the text's. Every byte of the text is now zero.
     TagDiffers {
@@ -107,7 +107,7 @@ impl fmt::Display for Error {
     fn fmt(&self, f: &mut fmt::Formatter<'_>) -> fmt::Result {
         match self {
             Error::KeySize => f.write_str("the key is not 16, 24 or 32 bytes"),
-            Error::Places => f.write_str("the number of places is not 1 to 26, or the state's rounds are not 10, 12 or 14"),
+            Error::Places => f.write_str("m is not 1 to 26, or the state's rounds are not 10, 12 or 14"),
             Error::NonceSize => f.write_str("the nonce is not 6 to 15 bytes"),
             Error::TagSize => f.write_str("the tag is not 1 to 16 bytes"),
             Error::TextSize => f.write_str("the text is too long for the places"),
@@ -144,7 +144,7 @@ impl Drop for Ocb3 {
 }
 
 impl Ocb3 {
-    /// The state of a key of 16, 24 or 32 bytes, for texts and data shorter than 2^30 bytes. A key of another length does not compile:
+    /// The state of a key of 16, 24 or 32 bytes, for texts and data of at most 2^30 bytes. A key of another length does not compile:
     ///
     /// ```compile_fail
     /// let cipher = rukensaz::Ocb3::new(&[0; 17]);
@@ -159,7 +159,7 @@ impl Ocb3 {
         Ocb3::with_places(key, MOST_PLACES).expect("a key of 16, 24 or 32 bytes")
     }
 
-    /// The state of a key, for texts and data shorter than 2^30 bytes.
+    /// The state of a key, for texts and data of at most 2^30 bytes.
     ///
     /// # Errors
     ///
@@ -168,7 +168,8 @@ impl Ocb3 {
         Ocb3::with_places(key, MOST_PLACES)
     }
 
-    /// The state of a key, with `m` places for L values: for texts and data shorter than 2^(m + 4) bytes.
+    /// The state of a key, for texts and data of at most 2^(m + 4) bytes: its table of L values has a place for `L_0` and `m` places behind
+    /// it, for `L_1` to `L_m`.
     ///
     /// # Errors
     ///

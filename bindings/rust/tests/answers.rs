@@ -34,10 +34,12 @@ fn sizes_are_refused_and_change_nothing() {
     for (nonce, data, text, tag, wanted) in [
         (5, 0, 0, 0, Error::NonceSize),
         (16, 0, 0, 1, Error::NonceSize),
-        (6, 0, 32, 0, Error::TagSize),
-        (6, 0, 32, 17, Error::TagSize),
-        (15, 32, 32, 16, Error::TextSize),
-        (15, 32, 31, 16, Error::DataSize),
+        (6, 0, 33, 0, Error::TagSize),
+        (6, 0, 33, 17, Error::TagSize),
+        (15, 0, 33, 16, Error::TextSize),
+        (15, 33, 33, 16, Error::TextSize),
+        (15, 33, 32, 16, Error::DataSize),
+        (15, 33, 0, 16, Error::DataSize),
     ] {
         let (nonce, data, mut text, mut tag) = (vec![1; nonce], vec![2; data], vec![3; text], vec![4; tag]);
         let (text_before, tag_before) = (text.clone(), tag.clone());

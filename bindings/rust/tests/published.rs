@@ -1,5 +1,5 @@
-//! RFC 7253, appendix A: its samples, which are over AES-128, sixteen with a tag of 16 bytes and one with a tag of 12; and its test over a wider
-//! range of sizes, over AES-128, AES-192 and AES-256.
+//! RFC 7253, appendix A: its samples, which are over AES-128, sixteen with a tag of 16 bytes and one with a tag of 12; those of the size that m = 1
+//! just admits; and its test over a wider range of sizes, over AES-128, AES-192 and AES-256.
 use rukensaz::{Ocb3, TAG_SIZE};
 
 /// Bytes of associated data and of plaintext, which count up from 0; ciphertext with the tag behind it. The sample's place in the list is
@@ -59,19 +59,45 @@ fn bytes(hex: &str) -> Vec<u8> {
         .collect()
 }
 
+/// Seals and opens what the sample at this place has, which has to give the ciphertext with the tag behind it.
+fn gives(cipher: &Ocb3, place: u8, wanted: &str) {
+    let (data, text, _) = SAMPLES[usize::from(place)];
+    let (data, plain) = (counting(data), counting(text));
+    let mut nonce = NONCE;
+    nonce[11] = place;
+    let mut buffer = plain.clone();
+    let tag: [u8; TAG_SIZE] = cipher.encrypt_in_place_detached(&nonce, &data, &mut buffer).unwrap();
+    assert_eq!([&buffer[..], &tag[..]].concat(), bytes(wanted), "sample {place}");
+    cipher.decrypt_in_place_detached(&nonce, &data, &mut buffer, &tag).unwrap();
+    assert_eq!(buffer, plain, "sample {place}");
+}
+
 #[test]
 fn full_tags() {
     let cipher = Ocb3::new_from_slice(&counting(16)).unwrap();
-    for (place, (data, text, published)) in (0u8..).zip(SAMPLES) {
-        let (data, plain, published) = (counting(data), counting(text), bytes(published));
-        let mut nonce = NONCE;
-        nonce[11] = place;
-        let mut buffer = plain.clone();
-        let tag: [u8; TAG_SIZE] = cipher.encrypt_in_place_detached(&nonce, &data, &mut buffer).unwrap();
-        assert_eq!([&buffer[..], &tag[..]].concat(), published, "sample {place}");
-        cipher.decrypt_in_place_detached(&nonce, &data, &mut buffer, &tag).unwrap();
-        assert_eq!(buffer, plain, "sample {place}");
+    for (place, (_, _, published)) in (0..).zip(SAMPLES) {
+        gives(&cipher, place, published);
     }
+}
+
+/// 32 bytes of text and of data, of text, and of data: samples 10 to 12. RFC 7253 has none of longer keys: what sample 10 gives with them is OpenSSL
+/// 3.0.19's (`EVP_aes_192_ocb`, `EVP_aes_256_ocb`).
+#[test]
+fn all_that_m_1_admits() {
+    let with_key = |length| Ocb3::with_places(&counting(length), 1).unwrap();
+    for place in 10..13 {
+        gives(&with_key(16), place, SAMPLES[usize::from(place)].2);
+    }
+    gives(
+        &with_key(24),
+        10,
+        "c0769f8fc8999ef3fc2ab7fdb229489889e734c52c361a7983e9eb2f8eaec1ef3524d8015d30310307e8b6b4411f4e45",
+    );
+    gives(
+        &with_key(32),
+        10,
+        "65628dc88905c930d3b0e043b544385852cfdc155d87ffd15044fc0e63cf9edbfd1f26227e45c02fb0e31b80f7890f0a",
+    );
 }
 
 #[test]
