@@ -1,8 +1,12 @@
 /* Times one engine: measure ENGINE [KEY_LENGTH], with ENGINE one of rukensaz, yardstick, openssl, libgcrypt, libgcrypt-plain, and a key of 16, 24
  * or 32 bytes, 16 where nothing is said.
- * It reads lines "JOB LENGTH COUNT" (JOB: set-up, seal or open) and answers each with "NANOSECONDS DIGEST": the processor time of COUNT
- * jobs, and a digest of what the last one left, by which bench/run sees that all engines did the same work. Nonces of 12 bytes that count
- * up, associated data of 4, tags of 16. An open is timed with the copy of the sealed text that it works on. */
+ * It reads lines "JOB M LENGTH COUNT" (JOB: set-up, set-up-and-seal, seal or open) and answers each with "NANOSECONDS DIGEST": the processor
+ * time of COUNT jobs, and a digest of what the last one left, by which bench/run sees that all engines did the same work. Nonces of 12 bytes
+ * that count up, associated data of 4, tags of 16. An open is timed with the copy of the sealed text that it works on.
+ * Before a seal or an open the engine is set up once, untimed; before jobs that set up it is not, so that bench/count counts their set-ups
+ * alone. A set-up has no text (its LENGTH is 0): 32 bytes are sealed after the last, untimed, for the digest.
+ * M is the last argument of ocb_set_up. Only this project takes it; the set-ups of the others make a table of one size, whatever M is: the
+ * yardstick one of 32 places, the crate, which has a worker of its own, one of 26. */
 #include "yardstick.h"
 #include <ocb.h>
 #include <stdio.h>
@@ -23,7 +27,7 @@ static size_t key_length = 16;
 
 struct engine {
     const char *name;
-    void (*set_up)(void);
+    void (*set_up)(size_t m);
     void (*seal)(const uint8_t nonce[12], uint8_t *text, size_t length, uint8_t tag[16]);
     int (*open)(const uint8_t nonce[12], uint8_t *text, size_t length, const uint8_t tag[16]); /* 1 where the tag is the text's */
 };
@@ -37,8 +41,8 @@ static void fail(const char *what) {
 
 static uint8_t state[OCB_STATE_SIZE];
 
-static void own_set_up(void) {
-    if ((ocb_set_up)(state, sizeof state, key, key_length, 26)) fail("ocb_set_up refused");
+static void own_set_up(size_t m) {
+    if ((ocb_set_up)(state, sizeof state, key, key_length, m)) fail("ocb_set_up refused");
 }
 static void own_seal(const uint8_t nonce[12], uint8_t *text, size_t length, uint8_t tag[16]) {
     size_t calls;
@@ -53,7 +57,8 @@ static int own_open(const uint8_t nonce[12], uint8_t *text, size_t length, const
 
 static struct yardstick yard;
 
-static void yard_set_up(void) {
+static void yard_set_up(size_t m) {
+    (void)m;
     if (key_length != 16) fail("the yardstick takes keys of 16 bytes only");
     yardstick_set_up(&yard, key);
 }
@@ -69,7 +74,8 @@ static int yard_open(const uint8_t nonce[12], uint8_t *text, size_t length, cons
 #ifdef WITH_OPENSSL
 static EVP_CIPHER_CTX *sealing, *opening;
 
-static void ssl_set_up(void) {
+static void ssl_set_up(size_t m) {
+    (void)m;
     const EVP_CIPHER *cipher = key_length == 16 ? EVP_aes_128_ocb() : key_length == 24 ? EVP_aes_192_ocb() : EVP_aes_256_ocb();
     EVP_CIPHER_CTX_free(sealing);
     EVP_CIPHER_CTX_free(opening);
@@ -99,7 +105,8 @@ static int ssl_open(const uint8_t nonce[12], uint8_t *text, size_t length, const
 #ifdef WITH_LIBGCRYPT
 static gcry_cipher_hd_t handle;
 
-static void gcrypt_set_up(void) {
+static void gcrypt_set_up(size_t m) {
+    (void)m;
     int cipher = key_length == 16 ? GCRY_CIPHER_AES128 : key_length == 24 ? GCRY_CIPHER_AES192 : GCRY_CIPHER_AES256;
     gcry_cipher_close(handle);
     if (gcry_cipher_open(&handle, cipher, GCRY_CIPHER_MODE_OCB, 0) || gcry_cipher_setkey(handle, key, key_length)) fail("libgcrypt has no AES-OCB");
@@ -161,28 +168,33 @@ int main(int argc, char **argv) {
     if (!strcmp(e->name, "libgcrypt-plain")) gcry_control(GCRYCTL_DISABLE_HWF, "all", NULL);
     if (!strncmp(e->name, "libgcrypt", 9) && !gcry_check_version(NULL)) fail("libgcrypt does not start");
 #endif
-    char job[8];
-    size_t length;
+    char job[16];
+    size_t m, length;
     unsigned count;
-    e->set_up();
-    while (scanf("%7s %zu %u", job, &length, &count) == 3) {
+    while (scanf("%15s %zu %zu %u", job, &m, &length, &count) == 4) {
+        int both = !strcmp(job, "set-up-and-seal"), only_set_up = !strcmp(job, "set-up"), opens = !strcmp(job, "open");
+        int sets_up = both || only_set_up, seals = both || !strcmp(job, "seal");
+        if (!sets_up && !seals && !opens) fail("there is no such job");
+        if (only_set_up) length = 32; /* sealed after the last set-up: as much as m = 1 admits */
         uint8_t *text = calloc(length + 1, 1), *sealed = calloc(length + 1, 1), nonce[12], tag[16] = {0};
         if (!text || !sealed) fail("no memory");
         number(nonce, 1);
-        if (*job == 'o') e->seal(nonce, sealed, length, tag);
+        if (!sets_up) e->set_up(m);
+        if (opens) e->seal(nonce, sealed, length, tag);
         uint64_t began = now();
         for (unsigned i = 1; i <= count; i++) {
-            if (!strcmp(job, "set-up")) {
-                e->set_up();
-            } else if (!strcmp(job, "seal")) {
+            if (sets_up) e->set_up(m);
+            if (seals) {
                 number(nonce, i);
                 e->seal(nonce, text, length, tag);
-            } else {
+            }
+            if (opens) {
                 memcpy(text, sealed, length);
                 if (!e->open(nonce, text, length, tag)) fail("a good tag was refused");
             }
         }
         uint64_t took = now() - began;
+        if (only_set_up) e->seal(nonce, text, length, tag);
         printf("%llu %016llx\n", (unsigned long long)took, (unsigned long long)digest(digest(0xcbf29ce484222325u, text, length), tag, 16));
         fflush(stdout);
         free(text), free(sealed);

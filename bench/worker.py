@@ -1,4 +1,5 @@
-"""What bench/run and bench/count share: the worker that is made of bench/measure.c."""
+"""What bench/run and bench/count share: the jobs, and the worker that is made of bench/measure.c."""
+import collections
 import os
 import subprocess
 
@@ -6,7 +7,12 @@ from script import Trouble
 
 KEYS = {16: "AES-128", 24: "AES-192", 32: "AES-256"}  # bytes of a key, and the cipher that they choose
 LENGTHS = [11, 64, 1500, 4096, 65536]
-JOBS = [("set-up", 0)] + [(job, length) for job in ("seal", "open") for length in LENGTHS]
+Job = collections.namedtuple("Job", "name word m length")  # the name that the tables have, and what the worker's line has
+JOBS = (
+    [Job(f"set-up, m = {m}", "set-up", m, 0) for m in (1, 8, 26)]
+    + [Job(f"set-up and seal, m = {m}", "set-up-and-seal", m, 64) for m in (8, 26)]
+    + [Job(word, word, 26, length) for word in ("seal", "open") for length in LENGTHS]
+)
 
 
 def cc():
@@ -29,6 +35,21 @@ def with_key(words, key):
     return words if key == 16 else [*words, str(key)]
 
 
+def line_of(job, count):
+    """What a worker is asked."""
+    return f"{job.word} {job.m} {job.length} {count}\n"
+
+
 def takes(words, key):
-    """Whether a worker takes keys of that many bytes."""
-    return subprocess.run(with_key(words, key), stdin=subprocess.DEVNULL, capture_output=True).returncode == 0
+    """Whether a worker sets up and seals with a key of that many bytes. One that reads lines of another form gives no answer."""
+    job = next(job for job in JOBS if job.word == "set-up-and-seal")
+    done = subprocess.run(with_key(words, key), input=line_of(job, 1), text=True, capture_output=True)
+    return done.returncode == 0 and done.stdout != ""
+
+
+def keys_taken(words, folder):
+    """The key lengths that the worker of a checkout takes."""
+    taken = [key for key in KEYS if takes(words, key)]
+    if not taken:
+        raise Trouble(f"the worker of {folder} gave no answer: its bench/measure.c may read other lines than this checkout's")
+    return taken

@@ -1,5 +1,5 @@
 //! Times the crate ocb3: crate-worker [KEY_LENGTH], with the same key lengths and the same lines in and out as bench/measure.c, and a table of 26
-//! places.
+//! places whatever M is.
 use aes::{Aes128, Aes192, Aes256};
 use ocb3::aead::{AeadInOut, KeyInit};
 use ocb3::consts::{U12, U16};
@@ -51,25 +51,39 @@ fn serve<M: KeyInit + AeadInOut<NonceSize = U12, TagSize = U16>>() {
     for line in std::io::stdin().lock().lines() {
         let line = line.expect("a line");
         let words: Vec<&str> = line.split(' ').collect();
-        let [job, length, count] = words[..] else { panic!("a job, a length and a count: {line}") };
+        let [job, _m, length, count] = words[..] else { panic!("a job, an m, a length and a count: {line}") };
         let (length, count): (usize, u32) = (length.parse().expect("a length"), count.parse().expect("a count"));
+        let (sets_up, seals, opens) = match job {
+            "set-up" => (true, false, false),
+            "set-up-and-seal" => (true, true, false),
+            "seal" => (false, true, false),
+            "open" => (false, false, true),
+            _ => panic!("there is no such job: {line}"),
+        };
+        let only_set_up = sets_up && !seals;
+        let length = if only_set_up { 32 } else { length }; // sealed after the last set-up
         let (mut text, mut sealed) = (vec![0; length], vec![0; length]);
         let mut tag = Array::default();
-        if job == "open" {
+        if opens {
             tag = mode.encrypt_inout_detached(&number(1), &DATA, sealed.as_mut_slice().into()).expect("a seal");
         }
         let began = now();
         for i in 1..=count {
-            match job {
-                "set-up" => mode = std::hint::black_box(set_up()),
-                "seal" => tag = mode.encrypt_inout_detached(&number(i), &DATA, text.as_mut_slice().into()).expect("a seal"),
-                _ => {
-                    text.copy_from_slice(&sealed);
-                    mode.decrypt_inout_detached(&number(1), &DATA, text.as_mut_slice().into(), &tag).expect("an open");
-                }
+            if sets_up {
+                mode = std::hint::black_box(set_up());
+            }
+            if seals {
+                tag = mode.encrypt_inout_detached(&number(i), &DATA, text.as_mut_slice().into()).expect("a seal");
+            }
+            if opens {
+                text.copy_from_slice(&sealed);
+                mode.decrypt_inout_detached(&number(1), &DATA, text.as_mut_slice().into(), &tag).expect("an open");
             }
         }
         let took = now() - began;
+        if only_set_up {
+            tag = mode.encrypt_inout_detached(&number(1), &DATA, text.as_mut_slice().into()).expect("a seal");
+        }
         println!("{took} {:016x}", digest(text.iter().chain(tag.iter()).copied()));
     }
 }
