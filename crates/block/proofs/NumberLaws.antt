@@ -1,13 +1,13 @@
--- Numbers as strings of digits, the highest first, to any base: the laws of `digits` and `number`, and the turns of loops that read and write them.
+-- Numbers as strings of digits, the highest first, to any base: the laws of `digits` and `number`, and the turns of loops that read them.
 -- Each goes by induction on the string or on the count of digits. Assumes nothing.
 use mathlib.Core.Path.{_≡_, refl, sym, ap, ap₂, _∙_, subst}
 use mathlib.Core.List.{List, [], _∷_, _++_, append-assoc, append-nil}
 use Prim.Native.Nat.{ℕ, zero, suc, _+_, _*_, _/_, _%_, _^_, _<_}
-use native.Mathlib.Nat.{add-mul, add-suc, add-zero, zero-add, zero-mul, mul-assoc, mul-one, one-mul, pow-zero, pow-suc, pow-succ', mod-lt, mod-one, mod-eq-of-lt, div-div-eq-div-mul, div-one, one-le-pow, le-refl, le-of-eq}
+use native.Mathlib.Nat.{add-mul, add-suc, add-zero, zero-add, zero-mul, mul-assoc, mul-one, one-mul, pow-zero, pow-suc, pow-succ', mod-lt, mod-one, mod-eq-of-lt, div-div-eq-div-mul, div-one, one-le-pow, le-of-eq, le-of-suc-le-suc, lt-of-lt-of-le, pow-le-pow-right}
 use native.Mathlib.Omega.{arith}
 use native.Mathlib.Numerals.{add-one, one-add}
-use lib.ListN.{length, getD, take, drop, set, length-append, length-set}
-use lib.Seq.{drop-cons, drop-set-lt, getD-set-same, take-suc}
+use lib.ListN.{length, getD, take, length-append}
+use lib.Seq.{take-suc}
 use lib.Arith.{digits-lt, digits-div, digits-mod, mod-mul}
 use lib.Pow.{pow-add}
 use Rattle.standards.specs.Strings.{digits, number}
@@ -101,6 +101,10 @@ module _ (base : ℕ) where
         (ap (digits base k) (ap (λ (x : ℕ). x / base) (mod-step k n) ∙ digits-div (n / base % base ^ k) (digit-below n)) ∙ digits-low k (n / base))
         (ap (λ (x : ℕ). x % base) (mod-step k n) ∙ digits-mod (n / base % base ^ k) (digit-below n))
 
+    -- before the last of k + 1 digits is read, the number has at most k
+    pub number-room : (i k n : ℕ) → i < suc k → n < base ^ i → n < base ^ k
+    number-room i k n h l = lt-of-lt-of-le l (pow-le-pow-right positive (le-of-suc-le-suc h))
+
     -- ---- there and back
 
     pub number-digits : (k n : ℕ) → number base (digits base k n) ≡ n % base ^ k
@@ -136,15 +140,3 @@ module _ (base : ℕ) where
   -- one digit more makes a number of one digit more
   pub number-more : (i x y : ℕ) → x < base ^ i → y < base → x * base + y < base ^ (i + 1)
   number-more i x y hx hy = subst (λ (z : ℕ). x * base + y < z) (sym (ap (λ (k : ℕ). base ^ k) (add-one i) ∙ pow-suc base i)) (digits-lt hx hy)
-
-  -- writing from the last digit on: the i highest digits are still to be written, and they are those of x
-  pub digits-turn : (S T : List ℕ) (i x : ℕ) → i < length S → digits base (suc i) x ++ drop (suc i) S ≡ T
-      → digits base i (x / base) ++ drop i (set S i (x % base)) ≡ T
-  unfolding digits
-  digits-turn S T i x h e =
-      let l : i < length (set S i (x % base)) = simp length-set h in
-      ap (λ (U : List ℕ). digits base i (x / base) ++ U)
-      (drop-cons (set S i (x % base)) i 0 l
-      ∙ ap₂ (λ (y : ℕ) (U : List ℕ). y ∷ U) (getD-set-same S i (x % base) 0 h) (drop-set-lt (suc i) S i (x % base) (le-refl (suc i))))
-      ∙ sym (append-assoc (digits base i (x / base)) (x % base ∷ []) (drop (suc i) S))
-      ∙ e

@@ -1,14 +1,16 @@
--- Numbers as strings of bytes, the lowest byte first: there and back, and four bytes of a string read and written.
+-- Numbers as strings of bytes, the lowest byte first: there and back, four bytes of a string read and written, and the turns of loops that swap a
+-- number's bytes and write them.
 -- By induction on the string or on the count of bytes. Assumes nothing.
-use mathlib.Core.Path.{_≡_, refl, sym, ap, _∙_}
+use mathlib.Core.Path.{_≡_, refl, sym, ap, ap₂, _∙_}
 use mathlib.Core.List.{List, [], _∷_, _++_, append-assoc}
 use Prim.Native.Nat.{ℕ, zero, suc, _+_, _*_, _/_, _%_, _^_, _<_, _≤_}
 use native.Mathlib.Nat.{zero-lt-suc, add-zero, pow-zero, pow-suc, mod-lt, mod-one, mod-eq-of-lt}
 use native.Mathlib.Numerals.{add-one, add-two, add-three}
 use native.Mathlib.Omega.{arith}
 use lib.ListN.{length, getD, take, drop, set, length-take, length-drop}
-use lib.Seq.{getD-drop, getD-take, sets-eq}
-use Rattle.standards.specs.Strings.{Bytes}
+use lib.Seq.{getD-drop, getD-take, sets-eq, take-suc-set}
+use lib.Arith.{digits-div, digits-mod}
+use Rattle.standards.specs.Strings.{Bytes, digits, toBytes}
 use Rattle.block.specs.Words.{le, leBytes}
 use Rattle.block.proofs.Literals.{is-literal}
 use Rattle.block.proofs.NumberLaws.{mod-step}
@@ -68,3 +70,22 @@ pub le-written : (S : List ℕ) (at n : ℕ) → at + 4 ≤ length S
 unfolding leBytes
 le-written S at n h =
     rw (add-one at, add-two at, add-three at) (sets-eq (leBytes 4 n) S at h ∙ append-assoc (take at S) (leBytes 4 n) (drop (at + 4) S))
+
+-- ---- turns of loops
+
+-- swapping: the lowest byte of rest becomes the lowest of r
+pub swap-turn : (k i rest r : ℕ) → toBytes k (rest / 256) ++ leBytes (suc i) (r * 256 + rest % 256) ≡ toBytes (suc k) rest ++ leBytes i r
+unfolding digits leBytes
+swap-turn k i rest r =
+    let low : rest % 256 < 256 = mod-lt rest (zero-lt-suc 255) in
+    ap₂ (λ (x y : ℕ). toBytes k (rest / 256) ++ (x ∷ leBytes i y)) (digits-mod r low) (digits-div r low)
+    ∙ sym (append-assoc (toBytes k (rest / 256)) (rest % 256 ∷ []) (leBytes i r))
+
+-- writing from the lowest byte on: k + 1 are still to be written, and they are those of x
+pub write-turn : (S T : List ℕ) (i k x : ℕ) → i < length S → take i S ++ leBytes (suc k) x ≡ T
+    → take (suc i) (set S i (x % 256)) ++ leBytes k (x / 256) ≡ T
+unfolding leBytes
+write-turn S T i k x h e =
+    ap (λ (U : List ℕ). U ++ leBytes k (x / 256)) (take-suc-set S i (x % 256) h)
+    ∙ append-assoc (take i S) (x % 256 ∷ []) (leBytes k (x / 256))
+    ∙ e

@@ -138,17 +138,33 @@ pub fn load_be64(s: &[u8], at: usize) -> u64
     n
 }
 
-// Makes s, which has eight bytes, the bytes of n.
+// The number that has the bytes of n in the other order.
+fn swapped(n: u64) -> u64
+    ensures { λ r. ⌜ leBytes 8 r ≡ toBytes 8 n ⌝ }
+{
+    let mut r: u64 = 0;
+    let mut rest = n;
+    let mut i: usize = 0;
+    while i < 8 {
+        r = r * 256 + rest % 256;
+        rest = rest / 256;
+        i += 1;
+    }
+    r
+}
+
+// Makes s, which has eight bytes, the bytes of n. The processor keeps a number's lowest byte first, so the compiler makes the loop over
+// the swapped number one store, and the swap one instruction.
 pub fn store_be64(s: &mut [u8], n: u64)
     requires { ⌜ length (now s) ≡ 8 ⌝ }
     ensures { λ r. ⌜ now (s .exit) ≡ toBytes 8 n ⌝ }
 {
-    let mut x = n;
-    let mut i = 8;
-    while 0 < i {
-        i -= 1;
+    let mut x = swapped(n);
+    let mut i = 0;
+    while i < 8 {
         s[i] = (x % 256) as u8;
         x = x / 256;
+        i += 1;
     }
 }
 

@@ -2,13 +2,13 @@
 use mathlib.Core.Path.{_≡_, refl, sym, ap, _∙_}
 use mathlib.Core.List.{List}
 use Prim.Native.Nat.{ℕ, _+_, _*_, _-_, _^_, _≤_, _<_, zero-le}
-use native.Mathlib.Nat.{zero-lt-suc, le-of-suc-le-suc, lt-of-lt-of-le, pow-le-pow-right}
+use native.Mathlib.Nat.{zero-lt-suc}
 use native.Mathlib.Omega.{arith}
 use borrow.Author.Needs.{needs}
 use lib.ListN.{length, getD, take, drop, length-drop}
 use lib.Seq.{getD-drop}
 use Rattle.standards.specs.Strings.{number, num}
-use Rattle.block.proofs.NumberLaws.{number-turn, number-more}
+use Rattle.block.proofs.NumberLaws.{number-turn, number-more, number-room}
 use Rattle.block.proofs.load_be64.Statement.{statement}
 use Rattle.block.proofs.load_be64.Tie as tie
 
@@ -17,10 +17,6 @@ Inv-loop s at n₀ i₀ n i = (i ≤ 8) × (n ≡ num (take i (drop at s))) × (
 
 abbrev μ-loop : tie.MeasureT-loop
 μ-loop s at n₀ i₀ n i = 8 - i
-
--- before the last byte is read, the number has at most seven
-seven : (i n : ℕ) → i < 8 → n < 256 ^ i → n < 256 ^ 7
-seven i n h l = lt-of-lt-of-le l (pow-le-pow-right (zero-lt-suc 255) (le-of-suc-le-suc h))
 
 turn : (S : List ℕ) (at i n : ℕ) → at + 8 ≤ length S → i < 8 → n ≡ num (take i (drop at S)) → n * 256 + getD S (at + i) 0 ≡ num (take (i + 1) (drop at S))
 turn S at i n h l e =
@@ -31,7 +27,7 @@ unfolding number
 loop-holds c = (zero-le, refl, zero-lt-suc 0)
 
 mul-n : tie.Need-mul-n Inv-loop μ-loop
-mul-n c = let l = c .before .loop in omega (arith, seven (l .i) (l .n) (c .loop-test .taken) (l .inv .2))
+mul-n c = let l = c .before .loop in omega (arith, number-room 256 (zero-lt-suc 255) (l .i) 7 (l .n) (c .loop-test .taken) (l .inv .2))
 
 cast-n : tie.Need-cast-n Inv-loop μ-loop
 cast-n c =
@@ -43,7 +39,7 @@ add-n-2 : tie.Need-add-n-2 Inv-loop μ-loop
 add-n-2 c =
     let s = c .before .before .before in
     let l = c .before .before .loop in
-    omega (arith, seven (l .i) (l .n) (c .before .loop-test .taken) (l .inv .2), c .shared-slice-known .given (s .args .at + l .i))
+    omega (arith, number-room 256 (zero-lt-suc 255) (l .i) 7 (l .n) (c .before .loop-test .taken) (l .inv .2), c .shared-slice-known .given (s .args .at + l .i))
 
 loop-again : tie.Need-loop-again Inv-loop μ-loop
 loop-again c =
