@@ -1,116 +1,79 @@
--- Doubling byte by byte: twice a string's number is the shifted bytes, with the top bit lost; what is xored in for it meets the last byte only.
--- By induction on the string, for any length. Assumes nothing.
-use mathlib.Core.Path.{_≡_, refl, sym, ap, ap₂, _∙_, subst}
-use mathlib.Core.List.{List, [], _∷_, _++_}
-use Prim.Native.Nat.{ℕ, zero, suc, _+_, _*_, _/_, _%_, _^_, _<_}
-use native.Mathlib.Nat.{add-mul, mul-assoc, mul-right-comm, pow-succ', div-eq-of-lt, mod-eq-of-lt}
+-- Doubling on two words: each is shifted left by one bit, the high one takes the low one's top bit, and 87 (hex) is xored into the low one for the bit
+-- that the high one loses. The shifts are laws of any width; the number 64 comes in at the end. Assumes nothing.
+use mathlib.Core.Path.{_≡_, sym, ap, ap₂, _∙_, subst}
+use mathlib.Core.List.{List, _++_}
+use Prim.Native.Nat.{ℕ, _+_, _*_, _/_, _%_, _^_, _<_}
+use native.Mathlib.Nat.{add-comm, div-eq-of-lt, mod-eq-of-lt}
 use native.Mathlib.Omega.{arith}
+use lib.Bits.{bitOr, xor-shr, xor-mod}
 use lib.Dec.{lit<}
-use lib.ListN.{length}
-use lib.Arith.{digits-div, digits-mod}
-use lib.Bits.{bitOr, or-shifted, xor-shr, xor-mod}
-use Rattle.standards.specs.Strings.{_⊕_, Bytes, Block, number, num, digits, toBytes}
+use lib.Pow.{shr-shr, shl-shr, field, mod-mod-pow, high, low}
+use Rattle.standards.specs.Strings.{_⊕_, num, toBytes}
 use Rattle.standards.specs.Rfc7253.{double}
+use Rattle.block.specs.Halves.{blockOf}
+use Rattle.block.specs.declared.Halves.{Halves}
 use Rattle.block.proofs.XorLaws.{zero-right}
-use Rattle.block.proofs.NumberLaws.{number-below, digits-number}
+use Rattle.block.proofs.NumberLaws.{number-append, number-digits, digits-length, digits-append, digits-low}
+use Rattle.block.proofs.ShiftLaws.{shifted-or, above, below}
 
--- ---- the bytes shifted left by one bit
+-- ---- twice the number of two words of c + 1 bits
 
--- the top bit of a string's first byte
-abbrev pub top : List ℕ → ℕ
-top [] = 0
-top (x ∷ S) = x / 128
+module _ (c hi lo : ℕ) (fits : lo < 2 ^ (c + 1)) where
+  abbrev words : ℕ
+  words = hi * 2 ^ (c + 1) + lo
 
--- a byte shifted, with the top bit of what stands right of it
-abbrev pub shifted : ℕ → List ℕ → ℕ
-shifted x [] = x * 2 % 256
-shifted x (y ∷ S) = bitOr (x * 2 % 256) (y / 128)
+  shifted : words * 2 / 2 ^ (c + 1) ≡ words / 2 ^ c
+  shifted =
+      ap (λ (k : ℕ). words * 2 / 2 ^ k) (add-comm c 1) ∙ sym (shr-shr (words * 2) 1 c) ∙ ap (λ (x : ℕ). x / 2 ^ c) (shl-shr words 1)
 
-abbrev pub shift : List ℕ → List ℕ
-shift [] = []
-shift (x ∷ S) = shifted x S ∷ shift S
+  high-word : words * 2 % 2 ^ (c + 1 + (c + 1)) / 2 ^ (c + 1) ≡ bitOr (hi * 2 % 2 ^ (c + 1)) (lo / 2 ^ c)
+  high-word =
+      field (words * 2) (c + 1) (c + 1)
+      ∙ ap (λ (x : ℕ). x % 2 ^ (c + 1)) shifted
+      ∙ shifted-or hi lo 1 c (subst (λ (k : ℕ). lo < 2 ^ k) (add-comm c 1) fits)
 
-shift-length : (S : List ℕ) → length (shift S) ≡ length S
-shift-length [] = refl
-shift-length (x ∷ S) = ap suc (shift-length S)
+  low-word : words * 2 % 2 ^ (c + 1 + (c + 1)) % 2 ^ (c + 1) ≡ lo * 2 % 2 ^ (c + 1)
+  low-word = mod-mod-pow (words * 2) (c + 1) (c + 1) ∙ above (c + 1) hi lo 1
 
-shifted-sum : (x : ℕ) (S : List ℕ) → Bytes S → shifted x S ≡ x * 2 % 256 + top S
-shifted-sum x [] h = omega arith
-shifted-sum x (y ∷ S) h =
-    let even : x * 2 % 256 ≡ x % 128 * 2 = omega arith in
-    let one : y / 128 < 2 = omega (arith, h 0) in
-    ap (λ (z : ℕ). bitOr z (y / 128)) even ∙ or-shifted (x % 128) 1 (y / 128) one ∙ ap (λ (z : ℕ). z + y / 128) (sym even)
+  lost-bit : words * 2 / 2 ^ (c + 1 + (c + 1)) ≡ hi / 2 ^ c
+  lost-bit = sym (shr-shr (words * 2) (c + 1) (c + 1)) ∙ ap (λ (x : ℕ). x / 2 ^ (c + 1)) shifted ∙ below (c + 1) hi lo c fits
 
-shifted-byte : (x : ℕ) (S : List ℕ) → Bytes S → x * 2 % 256 + top S < 256
-shifted-byte x [] h = omega arith
-shifted-byte x (y ∷ S) h = omega (arith, h 0)
+-- ---- sixteen bytes and two words
 
-shift-bytes : (S : List ℕ) → Bytes S → Bytes (shift S)
-shift-bytes [] h i = lit< tt
-shift-bytes (x ∷ S) h zero = subst (λ (z : ℕ). z < 256) (sym (shifted-sum x S (λ j. h (suc j)))) (shifted-byte x S (λ j. h (suc j)))
-shift-bytes (x ∷ S) h (suc i) = shift-bytes S (λ j. h (suc j)) i
+words-number : (hi lo : ℕ) → hi < 2 ^ 64 → lo < 2 ^ 64 → num (toBytes 8 hi ++ toBytes 8 lo) ≡ hi * 2 ^ 64 + lo
+words-number hi lo hh hl =
+    number-append 256 (toBytes 8 hi) (toBytes 8 lo)
+    ∙ ap (λ (k : ℕ). num (toBytes 8 hi) * 256 ^ k + num (toBytes 8 lo)) (digits-length 256 8 lo)
+    ∙ ap₂ (λ (x y : ℕ). x * 2 ^ 64 + y)
+    (number-digits 256 (lit< tt) 8 hi ∙ mod-eq-of-lt hh) (number-digits 256 (lit< tt) 8 lo ∙ mod-eq-of-lt hl)
 
--- twice a digit x above a number n of which twice is t L + m
-carry : (x n t m L : ℕ) → n * 2 ≡ t * L + m → (x * L + n) * 2 ≡ x / 128 * (256 * L) + ((x * 2 % 256 + t) * L + m)
-carry x n t m L e =
-    let d : x * 2 ≡ x / 128 * 256 + x * 2 % 256 = omega arith in
-    let high : x * L * 2 ≡ x / 128 * 256 * L + x * 2 % 256 * L =
-    mul-right-comm x L 2 ∙ ap (λ (y : ℕ). y * L) d ∙ add-mul (x / 128 * 256) (x * 2 % 256) L in
-    omega (arith, mul-assoc (x / 128) 256 L, add-mul (x * 2 % 256) t L)
+-- words are fixed by the block that they are
+pub halves-single : (x y : Halves) → x .high < 2 ^ 64 → x .low < 2 ^ 64 → y .high < 2 ^ 64 → y .low < 2 ^ 64 → blockOf x ≡ blockOf y → x ≡ y
+halves-single x y xh xl yh yl e =
+    let n : x .high * 2 ^ 64 + x .low ≡ y .high * 2 ^ 64 + y .low =
+    sym (words-number (x .high) (x .low) xh xl) ∙ ap num e ∙ words-number (y .high) (y .low) yh yl in
+    ap₂ (λ (h l : ℕ). record { high = h; low = l })
+    (sym (high (x .high) 64 xl) ∙ ap (λ (k : ℕ). k / 2 ^ 64) n ∙ high (y .high) 64 yl)
+    (sym (low (x .high) 64 xl) ∙ ap (λ (k : ℕ). k % 2 ^ 64) n ∙ low (y .high) 64 yl)
 
-twice : (S : List ℕ) → Bytes S → num S * 2 ≡ top S * 256 ^ length S + num (shift S)
-unfolding number
-twice [] h = refl
-twice (x ∷ S) h =
-    let L : ℕ = 256 ^ length S in
-    let tail : Bytes S = λ i. h (suc i) in
-    carry x (num S) (top S) (num (shift S)) L (twice S tail)
-    ∙ ap₂ (λ (y z : ℕ). x / 128 * y + (z + num (shift S))) (sym (pow-succ' 256 (length S)))
-    (ap₂ (λ (y k : ℕ). y * 256 ^ k) (sym (shifted-sum x S tail)) (sym (shift-length S)))
+-- a number of one word, xored into a number of two, meets the low word only
+low-xored : (n d : ℕ) → d < 2 ^ 64 → toBytes 16 (n ⊕ d) ≡ toBytes 8 (n / 2 ^ 64) ++ toBytes 8 (n % 2 ^ 64 ⊕ d)
+unfolding _⊕_
+low-xored n d h =
+    digits-append 256 8 8 (n ⊕ d)
+    ∙ ap₂ (λ (S T : List ℕ). S ++ T)
+    (ap (toBytes 8) (xor-shr n d 64 ∙ ap (λ (x : ℕ). n / 2 ^ 64 ⊕ x) (div-eq-of-lt h) ∙ zero-right (n / 2 ^ 64)))
+    (sym (digits-low 256 (lit< tt) 8 (n ⊕ d)) ∙ ap (toBytes 8) (xor-mod n d 64 ∙ ap (λ (x : ℕ). n % 2 ^ 64 ⊕ x) (mod-eq-of-lt h)))
 
--- ---- a number xored into the last byte
+-- ---- RFC 7253's doubling, of the block that two words are
 
--- f at the last place
-abbrev pub atLast : (ℕ → ℕ) → List ℕ → List ℕ
-atLast f [] = []
-atLast f (x ∷ []) = f x ∷ []
-atLast f (x ∷ y ∷ S) = x ∷ atLast f (y ∷ S)
-
-at-last-append : (f : ℕ → ℕ) (S : List ℕ) (x : ℕ) → atLast f (S ++ (x ∷ [])) ≡ S ++ (f x ∷ [])
-at-last-append f [] x = refl
-at-last-append f (y ∷ []) x = refl
-at-last-append f (y ∷ z ∷ S) x = ap (λ (T : List ℕ). y ∷ T) (at-last-append f (z ∷ S) x)
-
-last-byte : (k n d : ℕ) → d < 256 → toBytes (suc k) (n ⊕ d) ≡ atLast (λ x. x ⊕ d) (toBytes (suc k) n)
-unfolding digits _⊕_
-last-byte k n d h =
-    ap₂ (λ (y z : ℕ). toBytes k y ++ (z ∷ []))
-    (xor-shr n d 8 ∙ ap (λ (y : ℕ). n / 256 ⊕ y) (div-eq-of-lt h) ∙ zero-right (n / 256))
-    (xor-mod n d 8 ∙ ap (λ (y : ℕ). n % 256 ⊕ y) (mod-eq-of-lt h))
-    ∙ sym (at-last-append (λ x. x ⊕ d) (toBytes k (n / 256)) (n % 256))
-
--- ---- RFC 7253's doubling, byte by byte
-
-abbrev pub doubleBytes : List ℕ → List ℕ
-doubleBytes S = atLast (λ x. x ⊕ (top S * 0x87)) (shift S)
-
-top-bit : (S : List ℕ) → Bytes S → top S * 0x87 < 256
-top-bit [] h = lit< tt
-top-bit (x ∷ S) h = omega (arith, h 0)
-
--- for a string of k + 1 bytes
-double-any : (k : ℕ) (S : List ℕ) → length S ≡ suc k → Bytes S
-    → toBytes (suc k) (num S * 2 % 256 ^ suc k ⊕ num S * 2 / 256 ^ suc k * 0x87) ≡ doubleBytes S
-double-any k S e h =
-    let T : List ℕ = shift S in
-    let n : length T ≡ suc k = shift-length S ∙ e in
-    let two : num S * 2 ≡ top S * 256 ^ suc k + num T = twice S h ∙ ap (λ (j : ℕ). top S * 256 ^ j + num T) e in
-    let low : num T < 256 ^ suc k = subst (λ (j : ℕ). num T < 256 ^ j) n (number-below 256 T (shift-bytes S h)) in
-    ap₂ (λ (y z : ℕ). toBytes (suc k) (y ⊕ z * 0x87))
-    (ap (λ (y : ℕ). y % 256 ^ suc k) two ∙ digits-mod (top S) low) (ap (λ (y : ℕ). y / 256 ^ suc k) two ∙ digits-div (top S) low)
-    ∙ last-byte k (num T) (top S * 0x87) (top-bit S h)
-    ∙ ap (atLast (λ x. x ⊕ (top S * 0x87))) (ap (λ (j : ℕ). toBytes j (num T)) (sym n) ∙ digits-number 256 (lit< tt) T (shift-bytes S h))
-
-pub double-is : (S : List ℕ) → Block S → double S ≡ doubleBytes S
+pub double-words : (hi lo : ℕ) → hi < 2 ^ 64 → lo < 2 ^ 64 → double (toBytes 8 hi ++ toBytes 8 lo)
+    ≡ toBytes 8 (bitOr (hi * 2 % 2 ^ 64) (lo / 2 ^ 63)) ++ toBytes 8 (lo * 2 % 2 ^ 64 ⊕ hi / 2 ^ 63 * 0x87)
 unfolding double
-double-is S h = double-any 15 S (h .size) (h .bytes)
+double-words hi lo hh hl =
+    let n : ℕ = hi * 2 ^ 64 + lo in
+    let lost : ℕ = hi / 2 ^ 63 * 0x87 in
+    ap (λ (x : ℕ). toBytes 16 (x * 2 % 2 ^ 128 ⊕ x * 2 / 2 ^ 128 * 0x87)) (words-number hi lo hh hl)
+    ∙ ap (λ (x : ℕ). toBytes 16 (n * 2 % 2 ^ 128 ⊕ x * 0x87)) (lost-bit 63 hi lo hl)
+    ∙ low-xored (n * 2 % 2 ^ 128) lost (omega arith)
+    ∙ ap₂ (λ (x y : ℕ). toBytes 8 x ++ toBytes 8 (y ⊕ lost)) (high-word 63 hi lo hl) (low-word 63 hi lo hl)

@@ -4,6 +4,7 @@ pub mod NumberLaws
 pub mod StringLaws
 pub mod WordLaws
 pub mod NtzLaws
+pub mod ShiftLaws
 pub mod DoubleLaws
 pub mod Literals
 pub mod Owned

@@ -3,11 +3,12 @@
 use sizes::Block;
 ghost use mathlib.Core.Path.{_≡_};
 ghost use mathlib.Core.List.{_++_};
-ghost use Prim.Native.Nat.{_+_, _^_, _≤_, _<_};
+ghost use Prim.Native.Nat.{_+_, _/_, _^_, _≤_, _<_};
 ghost use lib.ListN.{length, getD, take, drop};
 ghost use Rattle.standards.specs.Strings.{_xor_, zeros, num, toBytes};
 ghost use Rattle.standards.specs.Rfc7253 as rfc;
 ghost use Rattle.block.specs.Words.{le, leBytes};
+ghost use Rattle.block.specs.Halves.{blockOf};
 
 // ---- Exclusive or
 
@@ -58,31 +59,62 @@ pub fn ntz(i: usize) -> usize
     usize::trailing_zeros(i) as usize
 }
 
-// The block shifted left by one bit, each byte taking the top bit of its right neighbour; and 87 (hex) xored into the last byte
-// if the bit that is lost was 1.
+// The block shifted left by one bit, and 87 (hex) xored into its last byte if the bit that is lost was 1.
 pub fn double(b: Block) -> Block
     ensures { λ r. ⌜ r ≡ rfc.double b ⌝ }
 {
-    let mut r = [
-        b[0] << 1 | b[1] >> 7,
-        b[1] << 1 | b[2] >> 7,
-        b[2] << 1 | b[3] >> 7,
-        b[3] << 1 | b[4] >> 7,
-        b[4] << 1 | b[5] >> 7,
-        b[5] << 1 | b[6] >> 7,
-        b[6] << 1 | b[7] >> 7,
-        b[7] << 1 | b[8] >> 7,
-        b[8] << 1 | b[9] >> 7,
-        b[9] << 1 | b[10] >> 7,
-        b[10] << 1 | b[11] >> 7,
-        b[11] << 1 | b[12] >> 7,
-        b[12] << 1 | b[13] >> 7,
-        b[13] << 1 | b[14] >> 7,
-        b[14] << 1 | b[15] >> 7,
-        b[15] << 1,
-    ];
-    r[15] = r[15] ^ (b[0] >> 7) * 0x87;
+    let mut r = [0u8; 16];
+    store_halves(&mut r, 0, double_halves(halves_of(b)));
     r
+}
+
+// ---- Blocks in two words
+
+// The high word is a block's first eight bytes, the low word its last eight.
+pub struct Halves {
+    pub high: u64,
+    pub low: u64,
+}
+
+// The words of a block.
+pub fn halves_of(b: Block) -> Halves
+    ensures { λ r. ⌜ blockOf r ≡ b ⌝ }
+{
+    Halves {
+        high: load_be64(&b, 0),
+        low: load_be64(&b, 8),
+    }
+}
+
+// The highest bit of a word.
+fn top_bit(w: u64) -> u64
+    ensures { λ r. ⌜ r ≡ w / 2 ^ 63 ⌝ }
+{
+    w >> 63
+}
+
+// The words of the doubled block. Both are shifted left by one bit; the high word takes the low word's top bit, and its own is lost: if
+// that was 1, 87 (hex) is xored into the low word.
+pub fn double_halves(x: Halves) -> Halves
+    ensures { λ r. ⌜ blockOf r ≡ rfc.double (blockOf x) ⌝ }
+{
+    let carried = top_bit(x.low);
+    let lost = top_bit(x.high);
+    Halves {
+        high: x.high << 1 | carried,
+        low: x.low << 1 ^ lost * 0x87,
+    }
+}
+
+// Writes the block that x is over the sixteen bytes of s from place at on.
+pub fn store_halves(s: &mut [u8], at: usize, x: Halves)
+    requires { ⌜ at + 16 ≤ length (now s) ⌝ }
+    ensures { λ r. ⌜ now (s .exit) ≡ take at (now (s .entry)) ++ (blockOf x ++ drop (at + 16) (now (s .entry))) ⌝ }
+{
+    let middle = at + 8;
+    let end = at + 16;
+    store_be64(&mut s[at..middle], x.high);
+    store_be64(&mut s[middle..end], x.low);
 }
 
 // ---- Blocks in a slice

@@ -1,65 +1,26 @@
--- `block::double` meets its contract: its literal is the bytes of `doubleBytes`, which is doubling. Each index is below 16. Assumes nothing.
-use mathlib.Core.Path.{_≡_, sym, ap, _∙_}
-use mathlib.Core.List.{List}
+-- `block::double` meets its contract: the block's words, doubled and laid over sixteen zeros. Assumes nothing.
+use mathlib.Core.Path.{_≡_, ap, _∙_}
+use mathlib.Core.List.{List, [], _++_, append-nil}
 use Prim.Native.Nat.{ℕ}
-use native.Mathlib.Omega.{arith}
 use borrow.Author.Needs.{needs}
-use lib.ListN.{getD}
-use Rattle.standards.specs.Strings.{_⊕_, tabulate, Block}
 use Rattle.standards.specs.Rfc7253.{double}
-use Rattle.block.proofs.DoubleLaws.{doubleBytes, double-is}
-use Rattle.block.proofs.Literals.{places}
-use Rattle.block.proofs.Owned.{owned-bytes, owned-block}
+use Rattle.block.specs.Halves.{blockOf}
+use Rattle.block.specs.declared.Halves.{Halves}
 use Rattle.block.proofs.double.Statement.{statement}
 use Rattle.block.proofs.double.Tie as tie
 
-bytewise : (b : List ℕ) → Block b → doubleBytes (tabulate 16 (λ i. getD b i 0)) ≡ double b
-bytewise b h = ap doubleBytes (sym (places 16 b (h .size))) ∙ sym (double-is b h)
-
-top-bit-fits : tie.Need-mul-r
-top-bit-fits c = omega (arith, owned-bytes 16 (c .args .t1) _ (c .good .0) 0)
+-- what is laid is the doubled words y of the words x of b
+made : {r : List ℕ} (b : List ℕ) (x y : Halves) → blockOf x ≡ b → blockOf y ≡ double (blockOf x) → r ≡ blockOf y ++ [] → r ≡ double b
+made b x y ex ey er = er ∙ append-nil (blockOf y) ∙ ey ∙ ap double ex
 
 returns : tie.Need-returns
-unfolding _⊕_
-returns c = bytewise (c .args .t1) (owned-block (c .args .t1) _ (c .good .0))
+returns c =
+    let stored = c .before .store-halves in
+    let doubled = c .before .before .double-halves in
+    let words = c .before .before .before .halves-of in
+    let b = c .before .before .before .before .before .args .b in
+    made b (words .result) (doubled .result) (words .ensures) (doubled .ensures) (stored .ensures)
 
 pub double-spec : {M : Type 1} → statement M
 double-spec =
-    tie.close
-    (tie.spec
-    (λ c. search needs)
-    (λ c. search needs)
-    (λ c. search needs)
-    (λ c. search needs)
-    (λ c. search needs)
-    (λ c. search needs)
-    (λ c. search needs)
-    (λ c. search needs)
-    (λ c. search needs)
-    (λ c. search needs)
-    (λ c. search needs)
-    (λ c. search needs)
-    (λ c. search needs)
-    (λ c. search needs)
-    (λ c. search needs)
-    (λ c. search needs)
-    (λ c. search needs)
-    (λ c. search needs)
-    (λ c. search needs)
-    (λ c. search needs)
-    (λ c. search needs)
-    (λ c. search needs)
-    (λ c. search needs)
-    (λ c. search needs)
-    (λ c. search needs)
-    (λ c. search needs)
-    (λ c. search needs)
-    (λ c. search needs)
-    (λ c. search needs)
-    (λ c. search needs)
-    (λ c. search needs)
-    (λ c. search needs)
-    (λ c. search needs)
-    top-bit-fits
-    (λ c. search needs)
-    returns)
+    tie.close (tie.spec (λ c. search needs) (λ c κs. search needs) (λ c κs. search needs) (λ c κs. search needs) returns)
