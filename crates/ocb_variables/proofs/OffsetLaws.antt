@@ -1,44 +1,23 @@
 -- The first offset on words of 64 bits: the high word of what is cut depends on Stretch's first two words, the low one on its last two.
--- The shifts are laws of any two widths; the number 64 comes in at the end. Assumes nothing.
+-- Assumes nothing.
 use mathlib.Core.Path.{_≡_, sym, ap, ap₂, _∙_, subst}
-use mathlib.Core.List.{List, _++_, append-nil}
+use mathlib.Core.List.{List, _++_}
 use Prim.Native.Nat.{ℕ, _+_, _-_, _*_, _/_, _%_, _^_, _<_, _≤_}
-use native.Mathlib.Nat.{add-comm, add-zero, add-mul, mul-assoc, mul-comm, mul-mod-left, mod-eq-of-lt, add-mul-div-right, mul-add-mod-self-right}
+use native.Mathlib.Nat.{mod-eq-of-lt}
 use native.Mathlib.Omega.{arith}
-use lib.Bits.{bitOr, or-shifted}
+use lib.Bits.{bitOr}
 use lib.Dec.{lit<}
 use lib.ListN.{length, take, drop, length-drop}
-use lib.Pow.{pow-pos, pow-add, high, low, mod-pow-add, shr-lt, shr-shr, shl-shr, field, mod-mod-pow}
-use lib.Seq.{take-all, take-add, take-at, drop-at, length-take-le}
-use Rattle.standards.specs.Strings.{num, toBytes, zeros, Bytes}
+use lib.Pow.{high, field, mod-mod-pow}
+use lib.Seq.{take-all, take-add, length-take-le}
+use Rattle.standards.specs.Strings.{num, toBytes, Bytes}
 use Rattle.standards.specs.InBytes.{cutOf}
 use Rattle.block.proofs.StringLaws.{bytes-take, bytes-drop}
-use Rattle.block.proofs.NumberLaws.{number-append, number-below, digits-length, digits-append, digits-low}
+use Rattle.block.proofs.ShiftLaws.{shifted-or, above, below}
+use Rattle.block.proofs.NumberLaws.{number-append, number-below, digits-append, digits-low}
 use Rattle.ocb_variables.specs.Nonce.{bitsFrom}
 
--- ---- a word's worth of bits from two words: hi, shifted to make room for the top bits of lo
-
--- a word has c + bottom bits, of which the top bottom ones of lo are taken
-module _ (hi lo bottom c : ℕ) (fits : lo < 2 ^ (bottom + c)) where
-  joined : (hi * 2 ^ (c + bottom) + lo) / 2 ^ c ≡ hi * 2 ^ bottom + lo / 2 ^ c
-  joined =
-      ap (λ (x : ℕ). (hi * x + lo) / 2 ^ c) (ap (λ (x : ℕ). 2 ^ x) (add-comm c bottom) ∙ pow-add 2 bottom c)
-      ∙ ap (λ (x : ℕ). (x + lo) / 2 ^ c) (sym (mul-assoc hi (2 ^ bottom) (2 ^ c)))
-      ∙ ap (λ (x : ℕ). x / 2 ^ c) (add-comm (hi * 2 ^ bottom * 2 ^ c) lo)
-      ∙ add-mul-div-right lo (hi * 2 ^ bottom) (pow-pos c)
-      ∙ add-comm (lo / 2 ^ c) (hi * 2 ^ bottom)
-
-  shifted-or : (hi * 2 ^ (c + bottom) + lo) / 2 ^ c % 2 ^ (c + bottom) ≡ bitOr (hi * 2 ^ bottom % 2 ^ (c + bottom)) (lo / 2 ^ c)
-  shifted-or =
-      let q : lo / 2 ^ c < 2 ^ bottom = shr-lt bottom c fits in
-      ap (λ (x : ℕ). x % 2 ^ (c + bottom)) joined
-      ∙ mod-pow-add (hi * 2 ^ bottom + lo / 2 ^ c) c bottom
-      ∙ ap₂ (λ (x y : ℕ). x % 2 ^ c * 2 ^ bottom + y) (high hi bottom q) (low hi bottom q)
-      ∙ sym (or-shifted (hi % 2 ^ c) bottom (lo / 2 ^ c) q)
-      ∙ ap (λ (x : ℕ). bitOr x (lo / 2 ^ c))
-      (sym (mod-pow-add (hi * 2 ^ bottom) c bottom
-      ∙ ap₂ (λ (x y : ℕ). x % 2 ^ c * 2 ^ bottom + y) (shl-shr hi bottom) (mul-mod-left hi (2 ^ bottom))
-      ∙ add-zero (hi % 2 ^ c * 2 ^ bottom)))
+-- ---- a word's worth of bits from two words
 
 pub bits-from-shifts : (hi lo bottom : ℕ) → bottom ≤ 64 → lo < 2 ^ 64
     → bitsFrom hi lo bottom ≡ bitOr (hi * 2 ^ bottom % 2 ^ 64) (lo / 2 ^ (64 - bottom))
@@ -53,23 +32,6 @@ pub bits-from-none : (hi lo : ℕ) → hi < 2 ^ 64 → lo < 2 ^ 64 → bitsFrom 
 bits-from-none hi lo hh hl = ap (λ (x : ℕ). x % 2 ^ 64) (high hi 64 hl) ∙ mod-eq-of-lt hh
 
 -- ---- three words
-
--- a word above does not reach a word's low bits
-above : (w a b k : ℕ) → (a * 2 ^ w + b) * 2 ^ k % 2 ^ w ≡ b * 2 ^ k % 2 ^ w
-above w a b k =
-    ap (λ (x : ℕ). x % 2 ^ w)
-    (add-mul (a * 2 ^ w) b (2 ^ k)
-    ∙ ap (λ (x : ℕ). x + b * 2 ^ k)
-    (mul-assoc a (2 ^ w) (2 ^ k) ∙ ap (λ (x : ℕ). a * x) (mul-comm (2 ^ w) (2 ^ k)) ∙ sym (mul-assoc a (2 ^ k) (2 ^ w))))
-    ∙ mul-add-mod-self-right (a * 2 ^ k) (2 ^ w) (b * 2 ^ k)
-
--- a word below does not reach the bits above it
-below : (w u c k : ℕ) → c < 2 ^ w → (u * 2 ^ w + c) / 2 ^ k / 2 ^ w ≡ u / 2 ^ k
-below w u c k h =
-    shr-shr (u * 2 ^ w + c) k w
-    ∙ ap (λ (x : ℕ). (u * 2 ^ w + c) / 2 ^ x) (add-comm k w)
-    ∙ sym (shr-shr (u * 2 ^ w + c) w k)
-    ∙ ap (λ (x : ℕ). x / 2 ^ k) (high u w h)
 
 -- three words, shifted so that the 128 bits behind the first bottom ones are the lowest
 abbrev shifted : ℕ → ℕ → ℕ → ℕ → ℕ
@@ -119,22 +81,14 @@ three-words S h =
     ∙ word-more S 16 (omega arith)
     ∙ ap (λ (x : ℕ). x * 2 ^ 64 + word S 16) (word-more S 8 (omega arith))
 
--- the first word laid over the front of sixteen zeros, the second over their back
-laid : (x y : List ℕ) → length x ≡ 8 → take 8 (x ++ zeros 8) ++ (y ++ drop 8 (drop 8 (x ++ zeros 8))) ≡ x ++ y
-laid x y h =
-    ap₂ (λ (S T : List ℕ). S ++ (y ++ drop 8 T)) (take-at x (zeros 8) 8 h) (drop-at x (zeros 8) 8 h)
-    ∙ ap (λ (S : List ℕ). x ++ S) (append-nil y)
-
--- the offset, from what the code makes one after the other: the words a, b and c, the words p and q cut from them, and their bytes
-pub cut-made : {a b c p q : ℕ} {x y : List ℕ} (S : List ℕ) (bottom : ℕ) → length S ≡ 24 → Bytes S → bottom < 64
-    → a ≡ word S 0 → b ≡ word S 8 → c ≡ word S 16
-    → p ≡ bitsFrom a b bottom → x ≡ toBytes 8 p → q ≡ bitsFrom b c bottom → y ≡ toBytes 8 q
-    → take 8 (x ++ zeros 8) ++ (y ++ drop 8 (drop 8 (x ++ zeros 8))) ≡ cutOf S bottom
+-- the offset, from what the code makes one after the other: the words a, b and c, and the words p and q cut from them
+pub cut-made : {a b c p q : ℕ} (S : List ℕ) (bottom : ℕ) → length S ≡ 24 → Bytes S → bottom < 64
+    → a ≡ word S 0 → b ≡ word S 8 → c ≡ word S 16 → p ≡ bitsFrom a b bottom → q ≡ bitsFrom b c bottom
+    → toBytes 8 p ++ toBytes 8 q ≡ cutOf S bottom
 unfolding cutOf
-cut-made {a} {b} {c} {p} {q} {x} {y} S bottom h hS hb ea eb ec ep ex eq ey =
+cut-made {a} {b} {c} S bottom h hS hb ea eb ec ep eq =
     let c-fits : c < 2 ^ 64 = subst (λ (n : ℕ). n < 2 ^ 64) (sym ec) (word-below S 16 hS (omega arith)) in
     let whole : (a * 2 ^ 64 + b) * 2 ^ 64 + c ≡ num S = cc (three-words S h) in
-    laid x y (ap length ex ∙ digits-length 256 8 p)
-    ∙ ap₂ (λ (T U : List ℕ). T ++ U) (ex ∙ ap (toBytes 8) ep) (ey ∙ ap (toBytes 8) eq)
+    ap₂ (λ (x y : ℕ). toBytes 8 x ++ toBytes 8 y) ep eq
     ∙ sym (cut-words a b c bottom (omega arith) c-fits)
     ∙ ap (λ (n : ℕ). toBytes 16 (n / 2 ^ (64 - bottom) % 2 ^ 128)) whole

@@ -1,6 +1,7 @@
 // What depends on the key and what depends on the nonce (RFC 7253, sections 4.1 and 4.2): the L values, the nonce block, Stretch and
 // the first offset. The cipher's tables and the round keys are lent down, not copied. t is a tag's length in bytes.
 use aes::EncipherTables;
+use block::Halves;
 use sizes::Block;
 use sizes::RoundKeys;
 use sizes::TABLE_BYTES;
@@ -31,17 +32,18 @@ pub struct State {
     pub table: Table,
 }
 
-// The table of L_0 to L_m: each L is the double of the one before, and L_0 that of L_$.
+// The table of L_0 to L_m: each L is the double of the one before, and L_0 that of L_$. They are doubled as words and become bytes in the
+// table only.
 fn l_table(dollar: Block, m: usize) -> Table
     requires { ⌜ m ≤ mMost ⌝ }
     ensures { λ r. ⌜ r ≡ tableOf dollar m ⌝ }
 {
     let mut table = [0u8; TABLE_BYTES];
-    let mut l = dollar;
+    let mut l = block::halves_of(dollar);
     let mut i = 0;
     while i <= m {
-        let next = block::double(l);
-        block::store(&mut table, i * 16, next);
+        let next = block::double_halves(l);
+        block::store_halves(&mut table, i * 16, next);
         l = next;
         i += 1;
     }
@@ -154,9 +156,12 @@ fn cut(stretch: [u8; 24], bottom: usize) -> Block
     let a = block::load_be64(&stretch, 0);
     let b = block::load_be64(&stretch, 8);
     let c = block::load_be64(&stretch, 16);
+    let words = Halves {
+        high: bits_from(a, b, bottom),
+        low: bits_from(b, c, bottom),
+    };
     let mut offset = [0u8; 16];
-    block::store_be64(&mut offset[0..8], bits_from(a, b, bottom));
-    block::store_be64(&mut offset[8..16], bits_from(b, c, bottom));
+    block::store_halves(&mut offset, 0, words);
     offset
 }
 
