@@ -6,8 +6,7 @@ use mathlib.Core.Logic.{_↔_}
 use mathlib.Core.List.{List, _++_}
 use Prim.Native.Nat.{ℕ, zero, suc, _+_, _/_, _≤_}
 use native.Mathlib.Omega.{arith}
-use lib.ListN.{length, length-drop, take-append-drop}
-use lib.Seq.{length-take-le}
+use lib.ListN.{length, take-append-drop}
 use Rattle.sizes.specs.Sizes.{roundsFor}
 use Rattle.standards.specs.Strings.{zeros, Bytes, Block}
 use Rattle.standards.specs.Rfc7253.{Key, Plaintext, VALID, INVALID, Offset-0, OCB-ENCRYPT, OCB-ENCRYPT-inputs, OCB-DECRYPT, OCB-DECRYPT-inputs}
@@ -15,7 +14,7 @@ use Rattle.standards.specs.AesOcb.{AES}
 use Rattle.aes.specs.Schedule.{roundKeysOf}
 use Rattle.aes.proofs.Expansion.{round-keys-bytes}
 use Rattle.ocb_laws.proofs.Cipher.{Cipher}
-use Rattle.ocb_laws.proofs.RoundTrip.{decrypt-encrypt, encrypt-decrypt, decrypt-bytes, encrypt-length}
+use Rattle.ocb_laws.proofs.RoundTrip.{decrypt-encrypt, encrypt-decrypt, decrypt-bytes}
 use Rattle.ocb_laws.proofs.Calls.{encrypt-calls, decrypt-calls}
 use Rattle.ocb_variables.specs.declared.State.{State}
 use Rattle.ocb_variables.specs.Held.{held}
@@ -28,12 +27,10 @@ use Rattle.ocb.specs.Terms.{MadeFrom, Encrypts, Told, HoldsBytes}
 use Rattle.ocb_numbers.proofs.RuleLaws.{first-at}
 use Rattle.ocb_numbers.proofs.Refusals.{in-range, refusal-most}
 use Rattle.ocb.proofs.AesKey.{aes-cipher, held-cipher, first-block}
+use Rattle.ocb.proofs.AnyState.{asked, verdict-calls, seal-lengths}
 use Rattle.ocb.proofs.MadeState.{made-state, made-sizes, state-holds-bytes, seal-is, open-is}
 
--- the number that the sizes ask for; OCB-DECRYPT's verdict under a key, and how many blocks it takes
-abbrev asked : State → List ℕ → List ℕ → List ℕ → List ℕ → ℕ
-asked s N A S T = refusal (s .values .m) (s .values .rounds) (length N) (length A) (length S) (length T)
-
+-- OCB-DECRYPT's verdict under a key, and how many blocks it takes
 abbrev decryption : Key → List ℕ → List ℕ → List ℕ → List ℕ → Plaintext
 decryption K N A S T = OCB-DECRYPT K (length T) N A (S ++ T)
 
@@ -128,12 +125,8 @@ module _ {k : List ℕ} {m : ℕ} {u : SetUp} (made : MadeFrom k m u) (N A S T :
       → (r .calls ≡ length (OCB-DECRYPT-inputs (AES (length k / 4) k) (length T) N A (S ++ T))) × (r .calls ≡ count (length A) (length S))
   calls-open L =
       let e : r .calls ≡ length (OCB-DECRYPT-inputs (AES (length k / 4) k) (length T) N A (S ++ T)) =
-      L .calls ∙ ap (λ (o : Outcome). o .calls) (open-is made N A S T sizes) ∙ verdict-calls (OCB-DECRYPT (AES (length k / 4) k) (length T) N A (S ++ T)) in
+      L .calls ∙ ap (λ (o : Outcome). o .calls) (open-is made N A S T sizes) ∙ verdict-calls (decryption (AES (length k / 4) k) N A S T) _ S T in
       (e, e ∙ decrypt-calls (AES (length k / 4) k) (length T) N A S T refl)
-    where
-      verdict-calls : (D : Plaintext) {n : ℕ} → verdict D n S T .calls ≡ n
-      verdict-calls (VALID P) = refl
-      verdict-calls INVALID = refl
 
 -- ---- Demand 3: open accepts exactly what RFC 7253's encryption produces, the buffer then holds that plaintext, and no second one exists
 
@@ -193,9 +186,9 @@ seal-opens s h N A P T N-bytes P-bytes {r} {C} {T'} L e {q} {P'} {T''} M =
     in-range (s .values .m) (s .values .rounds) (length N) (length A) (length P) t (done .0) .1 in
     let cipher : Cipher K = held-cipher s h in
     let first : Block (Offset-0 K t N) = first-block K cipher t N (sizes .nonce-size) (sizes .tag-size) N-bytes in
-    let long : length E ≡ length P + t = encrypt-length cipher t N A (sizes .tag-size .to) first P P-bytes in
-    let text-long : length C ≡ length P = ap length (done .1 .text-left) ∙ length-take-le (length P) E (omega arith) in
-    let tag-long : length T' ≡ t = ap length (done .1 .tag-left) ∙ length-drop (length P) E ∙ omega arith in
+    let long = seal-lengths s h N A P T N-bytes P-bytes in
+    let text-long : length C ≡ length P = ap length (L .text-left) ∙ long .0 in
+    let tag-long : length T' ≡ t = ap length (L .tag-left) ∙ long .1 in
     let whole : C ++ T' ≡ E = ap₂ (λ (a b : List ℕ). a ++ b) (done .1 .text-left) (done .1 .tag-left) ∙ take-append-drop (length P) E in
     let asks : asked s N A C T' ≡ 0 = ap₂ (λ (i j : ℕ). refusal (s .values .m) (s .values .rounds) (length N) (length A) j i) tag-long text-long ∙ done .0 in
     let valid : decryption K N A C T' ≡ VALID P =

@@ -1,4 +1,5 @@
 pub mod AesKey
+pub mod AnyState
 pub mod Outcomes
 pub mod MadeState
 pub mod Demands
