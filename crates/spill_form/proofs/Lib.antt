@@ -1,0 +1,4 @@
+pub mod PlaceLaws
+pub mod FileLaws
+pub mod BuildLaws
+pub mod BuiltLaws
