@@ -24,8 +24,18 @@ use Rattle.ocb_numbers.proofs.Refusals.{set-up-sizes}
 use Rattle.ocb.specs.Answers.{zeroState, madeUnless, setUp, Outcome, untouched, unless, Leaves}
 use Rattle.ocb.proofs.Outcomes.{by-number, by-none}
 use Rattle.ocb.proofs.Demands.{single}
+use Rattle.spill_form.specs.Reading.{Reading, unlessRead}
+use Rattle.spill_form.specs.Adding.{Adding, unlessAdd}
+use Rattle.spill_read.specs.Reads.{Reads}
+use Rattle.spill_read.specs.declared.Reply.{Reply}
+use Rattle.spill_read.proofs.ReadLaws.{not-read}
+use Rattle.spill_read.proofs.Isolation as reading
+use Rattle.spill_add.specs.Adds.{Adds}
+use Rattle.spill_add.specs.declared.Addition.{Addition}
+use Rattle.spill_add.proofs.AddLaws.{not-added}
+use Rattle.spill_add.proofs.Additions as adding
 use Rattle.ocb_c.specs.Buffer.{stateSize, encoded, decoded}
-use Rattle.ocb_c.specs.Lent.{bufferRules, sizeNumber, into, setUpIn, Kept, sealedIn, openedIn}
+use Rattle.ocb_c.specs.Lent.{bufferRules, sizeNumber, into, setUpIn, Kept, sealedIn, openedIn, readIn, addedIn}
 use Rattle.ocb_c.proofs.BufferLaws.{Sizes, decode-encode}
 
 -- ---- the buffer's size
@@ -70,6 +80,24 @@ module _ {n : ℕ} (B : List ℕ) (e : n ≡ sizeNumber B) where
       → Leaves (unless (sizeNumber B) refuse (answer (decoded B))) r S' T'
   done {r} {s} {S'} {T'} answer refuse z es L =
       by-none refuse e z (subst (λ (v : State). Leaves (answer v) r S' T') es L)
+
+  -- reading and adding
+  pub read-refused : (x : Reading) (out : List ℕ) → (n ≡ 0 → ⊥) → Reads (unlessRead (sizeNumber B) out x) (record { number = n; calls = 0; written = 0 }) out
+  read-refused x out h = not-read (sizeNumber B) out x e h
+
+  pub read-done : {r : Reply} {s : State} {out' : List ℕ} (answer : State → Reading) (out : List ℕ) → n ≡ 0 → s ≡ decoded B → Reads (answer s) r out'
+      → Reads (unlessRead (sizeNumber B) out (answer (decoded B))) r out'
+  read-done {r} {s} {out'} answer out z es R =
+      subst (λ (k : ℕ). Reads (unlessRead k out (answer (decoded B))) r out') (sym z ∙ e) (subst (λ (v : State). Reads (answer v) r out') es R)
+
+  pub add-refused : (x : Adding) (F : List ℕ) (file : ℕ) → (n ≡ 0 → ⊥)
+      → Adds (unlessAdd (sizeNumber B) F file x) (record { number = n; calls = 0; file = file }) F
+  add-refused x F file h = not-added (sizeNumber B) F file x e h
+
+  pub add-done : {r : Addition} {s : State} {F' : List ℕ} (answer : State → Adding) (F : List ℕ) (file : ℕ) → n ≡ 0 → s ≡ decoded B → Adds (answer s) r F'
+      → Adds (unlessAdd (sizeNumber B) F file (answer (decoded B))) r F'
+  add-done {r} {s} {F'} answer F file z es A =
+      subst (λ (k : ℕ). Adds (unlessAdd k F file (answer (decoded B))) r F') (sym z ∙ e) (subst (λ (v : State). Adds (answer v) r F') es A)
 
 -- ---- the state that set_up gives, in the buffer that ocb_set_up leaves
 
@@ -117,3 +145,11 @@ module _ (B N A S T : List ℕ) (r q : Answer) {S₁ T₁ S₂ T₂ : List ℕ} 
 
   pub open-single : Leaves (openedIn B N A S T) r S₁ T₁ → Leaves (openedIn B N A S T) q S₂ T₂ → (r ≡ q) × (S₁ ≡ S₂) × (T₁ ≡ T₂)
   open-single = single (openedIn B N A S T) r q
+
+pub read-single : (B F : List ℕ) (file row tenant : ℕ) (out : List ℕ) (r q : Reply) {out₁ out₂ : List ℕ}
+    → Reads (readIn B F file row tenant out) r out₁ → Reads (readIn B F file row tenant out) q out₂ → (r ≡ q) × (out₁ ≡ out₂)
+read-single B F file row tenant out r q = reading.read-single (readIn B F file row tenant out) r q
+
+pub add-single : (B F : List ℕ) (file : ℕ) (N : List ℕ) (tenant : ℕ) (P : List ℕ) (r q : Addition) {F₁ F₂ : List ℕ}
+    → Adds (addedIn B F file N tenant P) r F₁ → Adds (addedIn B F file N tenant P) q F₂ → (r ≡ q) × (F₁ ≡ F₂)
+add-single B F file N tenant P r q = adding.add-single (addedIn B F file N tenant P) r q

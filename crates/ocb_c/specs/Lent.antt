@@ -1,5 +1,5 @@
--- What the exported functions answer and leave, for every input: the entry points' answers (ocb/specs/Answers.antt) over the state that a lent buffer
--- holds, and one number of their own.
+-- What the exported functions answer and leave, for every input: the entry points' answers (ocb/specs/Answers.antt, spill_form/specs/Reading.antt and
+-- Adding.antt) over the state that a lent buffer holds, and one number of their own.
 use mathlib.Core.Path.{_≡_}
 use mathlib.Core.Bool.{not}
 use mathlib.Core.List.{List, [], _∷_}
@@ -9,6 +9,9 @@ use lib.ListN.{length}
 use Rattle.ocb.specs.declared.SetUp.{SetUp}
 use Rattle.ocb_numbers.specs.Numbers.{Rule, _if_, first}
 use Rattle.ocb.specs.Answers.{setUp, Outcome, sealRefused, openRefused, unless, sealed, opened}
+use Rattle.spill_form.specs.File.{tagsInBodies}
+use Rattle.spill_form.specs.Reading.{Reading, unlessRead, reading}
+use Rattle.spill_form.specs.Adding.{Adding, unlessAdd, adding}
 use Rattle.ocb_c.specs.Buffer.{stateSize, encoded, decoded}
 
 -- 40 where the buffer has not the size of a state. It goes before every other number: such a buffer holds no state to look at, and no place for one.
@@ -44,3 +47,11 @@ sealedIn B N A P T = unless (sizeNumber B) (sealRefused P T) (sealed (decoded B)
 
 unfoldable pub openedIn : List ℕ → List ℕ → List ℕ → List ℕ → List ℕ → Outcome
 openedIn B N A C T = unless (sizeNumber B) (openRefused C T) (opened (decoded B) N A C T)
+
+-- ---- spill files: the state that the buffer B holds, and the file that is the first bytes of the buffer F; their promises are `Reads` and `Adds`
+
+unfoldable pub readIn : List ℕ → List ℕ → ℕ → ℕ → ℕ → List ℕ → Reading
+readIn B F file row tenant out = unlessRead (sizeNumber B) out (reading tagsInBodies (decoded B) F file row tenant out)
+
+unfoldable pub addedIn : List ℕ → List ℕ → ℕ → List ℕ → ℕ → List ℕ → Adding
+addedIn B F file N tenant P = unlessAdd (sizeNumber B) F file (adding tagsInBodies (decoded B) F file N tenant P)

@@ -1,4 +1,4 @@
-// OCB3 over AES for programs in C and Rust: exported functions over numbers and byte slices. A slice is passed as its address and then
+// OCB3 over AES and spill files for programs in C and Rust: exported functions over numbers and byte slices. A slice is passed as its address and then
 // its length. The state of a key lives in a buffer that the caller lends; specs/Buffer.antt says how it lies there. include/ocb.h is the
 // same for a reader of C.
 use ocb_variables::KeyValues;
@@ -9,7 +9,9 @@ ghost use mathlib.Core.Path.{_≡_};
 ghost use lib.ListN.{length};
 ghost use Rattle.ocb.specs.Answers.{Leaves};
 ghost use Rattle.ocb_c.specs.Buffer.{stateSize, encoded, decoded};
-ghost use Rattle.ocb_c.specs.Lent.{sizeNumber, setUpIn, Kept, sealedIn, openedIn};
+ghost use Rattle.spill_read.specs.Reads.{Reads};
+ghost use Rattle.spill_add.specs.Adds.{Adds};
+ghost use Rattle.ocb_c.specs.Lent.{sizeNumber, setUpIn, Kept, sealedIn, openedIn, readIn, addedIn};
 
 // ---- A state in a buffer
 
@@ -151,4 +153,64 @@ pub extern "C" fn ocb_open(
     let answer = ocb::open(decode(state), nonce, ad, text, tag);
     *calls = answer.calls;
     answer.number
+}
+
+// ---- Spill files
+
+// Reads a row of the file that is the first `file` bytes of the buffer into the front of the output; `written` takes how many bytes of it
+// were written, `calls` the count of cipher calls.
+#[no_mangle]
+pub extern "C" fn spill_read(
+    state: &[u8],
+    buffer: &[u8],
+    file: usize,
+    row: usize,
+    tenant: u32,
+    out: &mut [u8],
+    written: &mut usize,
+    calls: &mut usize,
+) -> usize
+    ensures { λ r. ⌜
+        Reads (readIn (now (state .entry)) (now (buffer .entry)) file row tenant (now (out .entry)))
+        (record { number = r; calls = now (calls .exit); written = now (written .exit) }) (now (out .exit)) ⌝ }
+{
+    let refused = refuse_size(state);
+    if refused != 0 {
+        *written = 0;
+        *calls = 0;
+        return refused;
+    }
+    let reply = spill_read::read(decode(state), buffer, file, row, tenant, out);
+    *written = reply.written;
+    *calls = reply.calls;
+    reply.number
+}
+
+// Adds a text as a row of the file that is the first `file` bytes of the buffer; `new_length` takes the file's length afterwards, `calls` the
+// count of cipher calls.
+#[no_mangle]
+pub extern "C" fn spill_add(
+    state: &[u8],
+    buffer: &mut [u8],
+    file: usize,
+    nonce: &[u8],
+    tenant: u32,
+    text: &[u8],
+    new_length: &mut usize,
+    calls: &mut usize,
+) -> usize
+    ensures { λ r. ⌜
+        Adds (addedIn (now (state .entry)) (now (buffer .entry)) file (now (nonce .entry)) tenant (now (text .entry)))
+        (record { number = r; calls = now (calls .exit); file = now («new_length» .exit) }) (now (buffer .exit)) ⌝ }
+{
+    let refused = refuse_size(state);
+    if refused != 0 {
+        *new_length = file;
+        *calls = 0;
+        return refused;
+    }
+    let addition = spill_add::add(decode(state), buffer, file, nonce, tenant, text);
+    *new_length = addition.file;
+    *calls = addition.calls;
+    addition.number
 }
