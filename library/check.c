@@ -1,7 +1,7 @@
 /* What only a caller from C can get wrong, or what only include/ocb.h adds: keys and state buffers of other lengths, states of any bytes, NULL for
- * nothing, the texts of the numbers; an answer known from elsewhere for each key length and for the most that m = 1 admits; and the L values that
- * a state has for each m. Ends with status 1 at the first wrong answer. It is C and C++, to be linked with the linker's
- * --wrap=ocb_set_up,--wrap=ocb_seal,--wrap=ocb_open: every call of the archive then goes through the functions __wrap_.. below. */
+ * nothing, the texts of the numbers; an answer known from elsewhere for each key length, for the most that m = 1 admits and for a spill file; the L
+ * values that a state has for each m; and each number of a spill file's functions, in its order. Ends with status 1 at the first wrong answer. It is
+ * C and C++, to be linked with the linker's --wrap=.. for each of the functions __wrap_.. below: every call of the archive then goes through them. */
 #include <ocb.h>
 #include <stdio.h>
 #include <stdlib.h>
@@ -21,12 +21,20 @@ static void expect(int holds, const char *what) {
 #define SLICES \
     const uint8_t *state, size_t state_length, const uint8_t *nonce, size_t nonce_length, const uint8_t *data, size_t data_length, \
         uint8_t *text, size_t text_length
+#define READING \
+    const uint8_t *state, size_t state_length, const uint8_t *buffer, size_t buffer_length, size_t file_length, size_t row, uint32_t tenant, \
+        uint8_t *out, size_t out_length, size_t *written, size_t *calls
+#define ADDING \
+    const uint8_t *state, size_t state_length, uint8_t *buffer, size_t buffer_length, size_t file_length, const uint8_t *nonce, \
+        size_t nonce_length, uint32_t tenant, const uint8_t *text, size_t text_length, size_t *new_length, size_t *calls
 #ifdef __cplusplus
 extern "C" {
 #endif
 size_t __real_ocb_set_up(uint8_t *state, size_t state_length, const uint8_t *key, size_t key_length, size_t m);
 size_t __real_ocb_seal(SLICES, uint8_t *tag, size_t tag_length, size_t *calls);
 size_t __real_ocb_open(SLICES, const uint8_t *tag, size_t tag_length, size_t *calls);
+size_t __real_spill_read(READING);
+size_t __real_spill_add(ADDING);
 size_t __wrap_ocb_set_up(uint8_t *state, size_t state_length, const uint8_t *key, size_t key_length, size_t m) {
     expect(state && key, "a NULL reached ocb_set_up");
     return __real_ocb_set_up(state, state_length, key, key_length, m);
@@ -38,6 +46,15 @@ size_t __wrap_ocb_seal(SLICES, uint8_t *tag, size_t tag_length, size_t *calls) {
 size_t __wrap_ocb_open(SLICES, const uint8_t *tag, size_t tag_length, size_t *calls) {
     expect(state && nonce && data && text && tag, "a NULL reached ocb_open");
     return __real_ocb_open(state, state_length, nonce, nonce_length, data, data_length, text, text_length, tag, tag_length, calls);
+}
+size_t __wrap_spill_read(READING) {
+    expect(state && buffer && out, "a NULL reached spill_read");
+    return __real_spill_read(state, state_length, buffer, buffer_length, file_length, row, tenant, out, out_length, written, calls);
+}
+size_t __wrap_spill_add(ADDING) {
+    expect(state && buffer && nonce && text, "a NULL reached spill_add");
+    return __real_spill_add(state, state_length, buffer, buffer_length, file_length, nonce, nonce_length, tenant, text, text_length, new_length,
+                            calls);
 }
 #ifdef __cplusplus
 }
@@ -148,7 +165,7 @@ static void places_of_a_state(void) {
 static void lengths_of_the_state(void) {
     const size_t wrong[] = {0, 1, STATE - 1, STATE + 1};
     uint8_t state[STATE + 1], before[STATE + 1], text[TEXT], tag[16];
-    size_t calls;
+    size_t calls, length;
 
     expect(ocb_state_size() == STATE, "ocb_state_size is not the header's");
     for (size_t i = 0; i < sizeof state; i++) state[i] = any();
@@ -161,8 +178,14 @@ static void lengths_of_the_state(void) {
         expect(ocb_seal(state, n, nonce, 0, data, 4, text, TEXT, tag, 0, &calls) == OCB_STATE_LENGTH && calls == 0, "seal took it");
         calls = 9;
         expect(ocb_open(state, n, nonce, 0, data, 4, text, TEXT, tag, 0, &calls) == OCB_STATE_LENGTH && calls == 0, "open took it");
+        calls = length = 9;
+        expect(spill_read(state, n, tag, 16, 17, 0, 0, text, TEXT, &length, &calls) == OCB_STATE_LENGTH && calls == 0, "spill_read took it");
+        expect(length == 0, "spill_read took it and wrote");
+        calls = length = 9;
+        expect(spill_add(state, n, tag, 16, 17, nonce, 0, 0, text, TEXT, &length, &calls) == OCB_STATE_LENGTH && calls == 0, "spill_add took it");
+        expect(length == 17, "spill_add took it and gave another length");
     }
-    expect(!memcmp(state, before, sizeof state) && text[0] == 5 && text[TEXT - 1] == 5 && tag[0] == 6, "a refusal changed something");
+    expect(!memcmp(state, before, sizeof state) && text[0] == 5 && text[TEXT - 1] == 5 && tag[0] == 6 && tag[15] == 6, "a refusal changed something");
 
     expect(ocb_set_up(state, STATE, key, 15, 26) == OCB_KEY_SIZE && !memcmp(state, zeros, sizeof zeros), "number 1 left no zeros");
     expect(ocb_seal(state, STATE, nonce, 12, data, 4, text, TEXT, tag, 16, &calls) == OCB_PLACES, "a refused state was taken");
@@ -188,11 +211,156 @@ static void any_bytes_as_a_state(void) {
     }
 }
 
+/* A spill file of two rows, under the key 00 01 .. 0f: for tenant 7 the text 00 01 .. 20, under the nonce above, and for tenant 80000007 (in
+ * hexadecimal) no text, under the second nonce. The bodies are OpenSSL 3.0.19's (EVP_aes_128_ocb), and a script in Python laid the file out. */
+enum { FIRST = 33, SECOND_ROW = 28, FIRST_BODY = 52, FILE_LENGTH = 117, BUFFER = FILE_LENGTH + 80 };
+static const uint8_t second_nonce[12] = {0xbb, 0xaa, 0x99, 0x88, 0x77, 0x66, 0x55, 0x44, 0x33, 0x22, 0x11, 0x01};
+static const uint8_t two_rows[FILE_LENGTH] = {
+    0x02, 0x00, 0x00, 0x00,
+    0xbb, 0xaa, 0x99, 0x88, 0x77, 0x66, 0x55, 0x44, 0x33, 0x22, 0x11, 0x00, 0x07, 0x00, 0x00, 0x00, 0x34, 0x00, 0x00, 0x00, 0x31, 0x00, 0x00, 0x00,
+    0xbb, 0xaa, 0x99, 0x88, 0x77, 0x66, 0x55, 0x44, 0x33, 0x22, 0x11, 0x01, 0x07, 0x00, 0x00, 0x80, 0x65, 0x00, 0x00, 0x00, 0x10, 0x00, 0x00, 0x00,
+    0xa9, 0x92, 0x21, 0x4e, 0xde, 0x48, 0xf2, 0xc3, 0x3f, 0x8b, 0xe7, 0xf7, 0xe9, 0x85, 0xdf, 0x7e, 0xc9, 0xe6, 0x8e, 0xf0, 0xff, 0x18, 0x9f, 0xa7,
+    0xba, 0x92, 0x0d, 0x67, 0x9b, 0xae, 0x9c, 0x33, 0xfb, 0xd0, 0x74, 0xca, 0x59, 0xf1, 0x44, 0x53, 0x07, 0x00, 0xe2, 0x56, 0xf4, 0x4e, 0xb1, 0x79,
+    0x4d, 0xd0, 0x2c, 0x4a, 0xc5, 0xd0, 0x3a, 0x78, 0x7e, 0xdf, 0x7d, 0xd3, 0xff, 0xb5, 0xfa, 0x15, 0xba,
+};
+
+/* Whether the file in the buffer gives the row's text to the tenant, and nothing else is changed. */
+static void reads(const uint8_t *state, const uint8_t *buffer, size_t file_length, size_t row, uint32_t tenant, size_t length, size_t blocks) {
+    uint8_t out[TEXT], wanted[TEXT];
+    size_t written, calls;
+    memset(out, 5, TEXT), memset(wanted, 5, TEXT), memcpy(wanted, counting, length);
+    expect(spill_read(state, STATE, buffer, BUFFER, file_length, row, tenant, out, TEXT, &written, &calls) == OCB_DONE, "a row was not read");
+    expect(written == length && calls == blocks, "a row was read with another length or count");
+    expect(!memcmp(out, wanted, TEXT), "a row gave another text, or bytes behind it were changed");
+}
+
+static void a_file_of_two_rows(void) {
+    uint8_t state[STATE], buffer[BUFFER], wanted[BUFFER];
+    size_t length, calls;
+    expect(ocb_set_up(state, STATE, key, 16, 26) == OCB_DONE, "set up refused");
+    memset(buffer, 5, BUFFER), memset(buffer, 0, 4);
+    memset(wanted, 5, BUFFER), memcpy(wanted, two_rows, FILE_LENGTH);
+    expect(spill_add(state, STATE, buffer, BUFFER, 4, nonce, 12, 7, counting, FIRST, &length, &calls) == OCB_DONE, "the first row was not added");
+    expect(length == 4 + 40 + FIRST && calls == 6, "the first row was added with another length or count");
+    expect(spill_add(state, STATE, buffer, BUFFER, length, second_nonce, 12, 0x80000007, counting, 0, &length, &calls) == OCB_DONE,
+           "the second row was not added");
+    expect(length == FILE_LENGTH && calls == 3, "the second row was added with another length or count");
+    expect(!memcmp(buffer, wanted, BUFFER), "the file is another, or bytes behind it were changed");
+    reads(state, buffer, FILE_LENGTH, 0, 7, FIRST, 6);
+    reads(state, buffer, FILE_LENGTH, 1, 0x80000007, 0, 3);
+    expect(!memcmp(buffer, wanted, BUFFER), "reading changed the file");
+}
+
+/* The states and the damaged file that the two below begin with. m = 1 is too little for the first row's text. */
+struct lent {
+    uint8_t whole[STATE], small[STATE], buffer[BUFFER];
+};
+static void lend(struct lent *lent) {
+    expect(ocb_set_up(lent->whole, STATE, key, 16, 26) == OCB_DONE && ocb_set_up(lent->small, STATE, key, 16, 1) == OCB_DONE, "set up refused");
+    memset(lent->buffer, 5, BUFFER);
+    memcpy(lent->buffer, two_rows, FILE_LENGTH);
+    memset(lent->buffer + SECOND_ROW + 12, 0, 4); /* 11 */
+    lent->buffer[FIRST_BODY] ^= 1;                /* 7 */
+}
+
+struct reading {
+    const uint8_t *state;
+    size_t state_length, file_length, row;
+    uint32_t tenant;
+    size_t out_length;
+};
+
+/* Whether reading is answered so, with a text of 33 zeros where it is 7 and with nothing where it is another number. */
+static void refuses(struct reading r, const struct lent *lent, size_t number) {
+    uint8_t out[TEXT], wanted[TEXT], before[BUFFER];
+    size_t written = 9, calls = 9, length = number == OCB_TAG_DIFFERS ? FIRST : 0;
+    memset(out, 5, TEXT), memset(wanted, 5, TEXT), memset(wanted, 0, length);
+    memcpy(before, lent->buffer, BUFFER);
+    size_t given = spill_read(r.state, r.state_length, lent->buffer, BUFFER, r.file_length, r.row, r.tenant, out, r.out_length, &written, &calls);
+    expect(given == number, "reading gave another number");
+    expect(written == length && calls == (length ? 6 : 0), "a refused reading gave another length or count");
+    expect(!memcmp(out, wanted, TEXT) && !memcmp(lent->buffer, before, BUFFER), "a refused reading left something else");
+}
+
+/* At first everything is wrong that can be, then one thing after the other is put right, so that a number out of its order is seen. The first length
+ * and the first row would be right if they were cut to 32 bits, and the tenant number if it were cut to 31. */
+static void numbers_of_reading(void) {
+    const size_t cut = (size_t)1 << 32;
+    struct lent lent;
+    lend(&lent);
+    struct reading r = {zeros, STATE - 1, cut + FILE_LENGTH + 1, cut, 0x80000007, FIRST - 1};
+    refuses(r, &lent, OCB_STATE_LENGTH);
+    r.state_length = STATE, refuses(r, &lent, OCB_FILE_SIZE);
+    r.file_length = BUFFER + 1, refuses(r, &lent, OCB_FILE_SIZE);
+    r.file_length = FILE_LENGTH + 1, refuses(r, &lent, OCB_BAD_ROW);
+    memcpy(lent.buffer, two_rows, FIRST_BODY), refuses(r, &lent, OCB_TRAILING_BYTES);
+    r.file_length = FILE_LENGTH, refuses(r, &lent, OCB_NO_ROW);
+    r.row = 2, refuses(r, &lent, OCB_NO_ROW);
+    r.row = 0, refuses(r, &lent, OCB_OTHER_TENANT);
+    r.tenant = 7, refuses(r, &lent, OCB_OUTPUT_SIZE);
+    r.out_length = FIRST, refuses(r, &lent, OCB_PLACES);
+    r.state = lent.small, refuses(r, &lent, OCB_TEXT_SIZE);
+    r.state = lent.whole, refuses(r, &lent, OCB_TAG_DIFFERS);
+    lent.buffer[FIRST_BODY] ^= 1, reads(r.state, lent.buffer, r.file_length, r.row, r.tenant, FIRST, 6);
+}
+
+struct adding {
+    const uint8_t *state;
+    size_t state_length, buffer_length, file_length;
+    const uint8_t *nonce;
+    size_t nonce_length;
+    uint32_t tenant;
+};
+
+/* What adding the first row's text once more is answered. */
+static size_t add(struct adding a, struct lent *lent, size_t *length, size_t *calls) {
+    return spill_add(a.state, a.state_length, lent->buffer, a.buffer_length, a.file_length, a.nonce, a.nonce_length, a.tenant, counting, FIRST,
+                     length, calls);
+}
+
+/* Whether it is refused so, and nothing is changed. */
+static void not_added(struct adding a, struct lent *lent, size_t number) {
+    uint8_t before[BUFFER];
+    size_t length = 9, calls = 9;
+    memcpy(before, lent->buffer, BUFFER);
+    expect(add(a, lent, &length, &calls) == number, "adding gave another number");
+    expect(length == a.file_length && calls == 0, "a refused addition gave another length or count");
+    expect(!memcmp(lent->buffer, before, BUFFER), "a refused addition changed the buffer");
+}
+
+/* As for reading. The nonce of 13 bytes begins with one that is in the file. */
+static void numbers_of_adding(void) {
+    const uint8_t longer[13] = {0xbb, 0xaa, 0x99, 0x88, 0x77, 0x66, 0x55, 0x44, 0x33, 0x22, 0x11, 0x01, 0x00};
+    const size_t cut = (size_t)1 << 32, added = FILE_LENGTH + 40 + FIRST;
+    size_t length, calls;
+    struct lent lent;
+    lend(&lent);
+    struct adding a = {zeros, STATE - 1, added - 1, cut + FILE_LENGTH + 1, longer, 12, 0};
+    not_added(a, &lent, OCB_STATE_LENGTH);
+    a.state_length = STATE, not_added(a, &lent, OCB_FILE_SIZE);
+    a.file_length = a.buffer_length + 1, not_added(a, &lent, OCB_FILE_SIZE);
+    a.file_length = FILE_LENGTH + 1, not_added(a, &lent, OCB_BAD_ROW);
+    memcpy(lent.buffer, two_rows, FIRST_BODY), not_added(a, &lent, OCB_TRAILING_BYTES);
+    a.file_length = FILE_LENGTH, not_added(a, &lent, OCB_TENANT_ZERO);
+    a.tenant = 0x80000000, not_added(a, &lent, OCB_NONCE_USED);
+    a.nonce_length = 13, not_added(a, &lent, OCB_FILE_FULL);
+    a.buffer_length = added, not_added(a, &lent, OCB_PLACES);
+    a.state = lent.small, not_added(a, &lent, OCB_NONCE_SIZE);
+    a.nonce += 1, a.nonce_length = 12, not_added(a, &lent, OCB_TEXT_SIZE);
+    a.state = lent.whole;
+    expect(add(a, &lent, &length, &calls) == OCB_DONE && length == added && calls == 6, "a third row was not added");
+    expect(lent.buffer[added] == 5 && lent.buffer[BUFFER - 1] == 5, "bytes behind the new file were changed");
+    reads(a.state, lent.buffer, length, 1, 0x80000007, 0, 3);
+    reads(a.state, lent.buffer, length, 2, 0x80000000, FIRST, 6);
+    struct reading damaged = {lent.whole, STATE, length, 0, 7, FIRST};
+    refuses(damaged, &lent, OCB_TAG_DIFFERS); /* bodies are moved, not opened */
+}
+
 /* NULL with a length of 0, for each slice. The tag is that of RFC 7253, appendix A, first sample: no data, no text. */
 static void null_for_nothing(void) {
     const uint8_t published[16] = {0x78, 0x54, 0x07, 0xbf, 0xff, 0xc8, 0xad, 0x9e, 0xdc, 0xc5, 0x52, 0x0a, 0xc9, 0x11, 0x1e, 0xe6};
-    uint8_t state[STATE], tag[16], text[1] = {5};
-    size_t calls;
+    uint8_t state[STATE], tag[16], text[1] = {5}, buffer[BUFFER] = {0};
+    size_t calls, length;
 
     expect(ocb_set_up(NULL, 0, key, 16, 26) == OCB_STATE_LENGTH, "no state buffer is not refused with 40");
     expect(ocb_set_up(state, STATE, NULL, 0, 26) == OCB_KEY_SIZE, "no key is not refused with 1");
@@ -210,6 +378,24 @@ static void null_for_nothing(void) {
     expect(ocb_seal(NULL, 0, nonce, 12, NULL, 0, text, 1, tag, 16, &calls) == OCB_STATE_LENGTH, "seal: no state is not refused with 40");
     expect(ocb_open(NULL, 0, nonce, 12, NULL, 0, text, 1, tag, 16, &calls) == OCB_STATE_LENGTH, "open: no state is not refused with 40");
     expect(text[0] == 5, "a refusal changed the text");
+    expect(spill_read(NULL, 0, two_rows, FILE_LENGTH, FILE_LENGTH, 0, 7, text, 1, &length, &calls) == OCB_STATE_LENGTH,
+           "spill_read: no state is not refused with 40");
+    expect(spill_read(state, STATE, NULL, 0, 0, 0, 7, text, 1, &length, &calls) == OCB_FILE_SIZE, "spill_read: no buffer is not refused with 10");
+    expect(spill_read(state, STATE, two_rows, FILE_LENGTH, FILE_LENGTH, 0, 7, NULL, 0, &length, &calls) == OCB_OUTPUT_SIZE,
+           "spill_read: no output is not refused with 9");
+    expect(spill_read(state, STATE, two_rows, FILE_LENGTH, FILE_LENGTH, 1, 0x80000007, NULL, 0, &length, &calls) == OCB_DONE && calls == 3,
+           "no text was not read to no output");
+    expect(spill_add(NULL, 0, buffer, BUFFER, 4, nonce, 12, 7, text, 1, &length, &calls) == OCB_STATE_LENGTH,
+           "spill_add: no state is not refused with 40");
+    expect(spill_add(state, STATE, NULL, 0, 0, nonce, 12, 7, text, 1, &length, &calls) == OCB_FILE_SIZE,
+           "spill_add: no buffer is not refused with 10");
+    expect(spill_add(state, STATE, buffer, BUFFER, 4, NULL, 0, 7, text, 1, &length, &calls) == OCB_NONCE_SIZE,
+           "spill_add: no nonce is not refused with 3");
+    expect(spill_add(state, STATE, buffer, BUFFER, 4, nonce, 12, 7, NULL, 0, &length, &calls) == OCB_DONE && length == 44, "no text was not added");
+    expect((spill_add)(state, STATE, buffer, BUFFER, 44, second_nonce, 12, 7, text, 1, &length, &calls) == OCB_DONE && length == 85,
+           "the archive's own function adds something else");
+    expect((spill_read)(state, STATE, buffer, BUFFER, 85, 1, 7, tag, 16, &length, &calls) == OCB_DONE && length == 1 && tag[0] == 5,
+           "the archive's own function reads something else");
     memset(tag, 0, sizeof tag);
     expect((ocb_seal)(state, STATE, nonce, 12, data, 0, text, 0, tag, 16, &calls) == OCB_DONE && !memcmp(tag, published, 16),
            "the archive's own function gave something else");
@@ -220,7 +406,10 @@ static void texts_of_the_numbers(void) {
         size_t number;
         const char *has;
     } rows[] = {{OCB_DONE, "done"}, {OCB_KEY_SIZE, "key"}, {OCB_PLACES, "m is"}, {OCB_NONCE_SIZE, "nonce"}, {OCB_TAG_SIZE, "tag is"},
-                {OCB_TEXT_SIZE, "text"}, {OCB_DATA_SIZE, "data"}, {OCB_TAG_DIFFERS, "tag differs"}, {OCB_STATE_LENGTH, "state"}, {8, "no number"}};
+                {OCB_TEXT_SIZE, "text is"}, {OCB_DATA_SIZE, "data"}, {OCB_TAG_DIFFERS, "tag differs"}, {8, "no number"}, {OCB_OUTPUT_SIZE, "output"},
+                {OCB_FILE_SIZE, "table"}, {OCB_BAD_ROW, "out of place"}, {OCB_TRAILING_BYTES, "behind"}, {OCB_OTHER_TENANT, "another tenant"},
+                {OCB_NO_ROW, "no such row"}, {OCB_NONCE_USED, "has this nonce"}, {OCB_FILE_FULL, "no room"}, {OCB_TENANT_ZERO, "tenant number is 0"},
+                {18, "no number"}, {OCB_STATE_LENGTH, "state"}};
     for (size_t i = 0; i < sizeof rows / sizeof *rows; i++) expect(strstr(ocb_message(rows[i].number), rows[i].has) != NULL, "a number has another's text");
 }
 
@@ -231,8 +420,12 @@ int main(void) {
     places_of_a_state();
     lengths_of_the_state();
     any_bytes_as_a_state();
+    a_file_of_two_rows();
+    numbers_of_reading();
+    numbers_of_adding();
     null_for_nothing();
     texts_of_the_numbers();
-    puts("check: each key length and m = 1 give their known answers; other lengths, states of any bytes and NULL are answered; each number has its text");
+    puts("check: each key length, m = 1 and a spill file give their known answers; other lengths, states of any bytes, wrong files and NULL are "
+         "answered; each number has its text");
     return 0;
 }

@@ -108,7 +108,7 @@ impl fmt::Display for Error {
         match self {
             Error::KeySize => f.write_str("the key is not 16, 24 or 32 bytes"),
             Error::Places => f.write_str("m is not 1 to 26, or the state's rounds are not 10, 12 or 14"),
-            Error::NonceSize => f.write_str("the nonce is not 6 to 15 bytes"),
+            Error::NonceSize => f.write_str("the nonce is not 6 to 15 bytes, or for a spill file not 12"),
             Error::TagSize => f.write_str("the tag is not 1 to 16 bytes"),
             Error::TextSize => f.write_str("the text is too long for the places"),
             Error::DataSize => f.write_str("the associated data are too long for the places"),
