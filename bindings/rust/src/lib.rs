@@ -2,6 +2,10 @@
 #![no_std]
 #![warn(missing_docs)]
 
+mod spill;
+
+pub use spill::{Row, Spill};
+
 use core::fmt;
 use core::sync::atomic::{compiler_fence, Ordering};
 
@@ -43,6 +47,33 @@ mod linked {
             tag_length: usize,
             calls: *mut usize,
         ) -> usize;
+        pub fn spill_read(
+            state: *const u8,
+            state_length: usize,
+            buffer: *const u8,
+            buffer_length: usize,
+            file_length: usize,
+            row: usize,
+            tenant: u32,
+            out: *mut u8,
+            out_length: usize,
+            written: *mut usize,
+            calls: *mut usize,
+        ) -> usize;
+        pub fn spill_add(
+            state: *const u8,
+            state_length: usize,
+            buffer: *mut u8,
+            buffer_length: usize,
+            file_length: usize,
+            nonce: *const u8,
+            nonce_length: usize,
+            tenant: u32,
+            text: *const u8,
+            text_length: usize,
+            new_length: *mut usize,
+            calls: *mut usize,
+        ) -> usize;
     }
 }
 
@@ -62,11 +93,30 @@ pub enum Error {
     TextSize,
     /// 6: the associated data have more than 2^(m + 4) bytes.
     DataSize,
-    /// 7: the tag is not the text's. Every byte of the text is now zero.
+    /// 7: the tag is not the text's. Every byte of the text is now zero, in a spill file's output too.
     TagDiffers {
         /// The number of blocks handed to the cipher.
         calls: usize,
     },
+    /// 9: the output is shorter than the text.
+    OutputSize,
+    /// 10: the file is longer than its buffer or than 65,536 bytes, has more than 256 rows, or is too short for its table.
+    FileSize,
+    /// 11: a row has the tenant number 0, a body under 16 bytes or past the file's end, or a place other than that at which its body has
+    /// to start.
+    BadRow,
+    /// 12: the file has bytes behind its last body.
+    TrailingBytes,
+    /// 13: the row is another tenant's.
+    OtherTenant,
+    /// 14: the file has no row of this number.
+    NoRow,
+    /// 15: a row of the file has this nonce.
+    NonceUsed,
+    /// 16: the file has 256 rows, or would be longer than its buffer or than 65,536 bytes.
+    FileFull,
+    /// 17: the tenant number is 0.
+    TenantZero,
     /// Any other number: the library is not the one that this crate was written for.
     Unknown(usize),
 }
@@ -82,6 +132,15 @@ impl Error {
             5 => Err(Error::TextSize),
             6 => Err(Error::DataSize),
             7 => Err(Error::TagDiffers { calls }),
+            9 => Err(Error::OutputSize),
+            10 => Err(Error::FileSize),
+            11 => Err(Error::BadRow),
+            12 => Err(Error::TrailingBytes),
+            13 => Err(Error::OtherTenant),
+            14 => Err(Error::NoRow),
+            15 => Err(Error::NonceUsed),
+            16 => Err(Error::FileFull),
+            17 => Err(Error::TenantZero),
             other => Err(Error::Unknown(other)),
         }
     }
@@ -97,6 +156,15 @@ impl Error {
             Error::TextSize => 5,
             Error::DataSize => 6,
             Error::TagDiffers { .. } => 7,
+            Error::OutputSize => 9,
+            Error::FileSize => 10,
+            Error::BadRow => 11,
+            Error::TrailingBytes => 12,
+            Error::OtherTenant => 13,
+            Error::NoRow => 14,
+            Error::NonceUsed => 15,
+            Error::FileFull => 16,
+            Error::TenantZero => 17,
             Error::Unknown(number) => number,
         }
     }
@@ -113,6 +181,15 @@ impl fmt::Display for Error {
             Error::TextSize => f.write_str("the text is too long for the places"),
             Error::DataSize => f.write_str("the associated data are too long for the places"),
             Error::TagDiffers { .. } => f.write_str("the tag differs"),
+            Error::OutputSize => f.write_str("the output is shorter than the text"),
+            Error::FileSize => f.write_str("the file is too long, has too many rows, or is too short for its table"),
+            Error::BadRow => f.write_str("a row has the tenant number 0, or its body is too short or out of place"),
+            Error::TrailingBytes => f.write_str("the file has bytes behind its last body"),
+            Error::OtherTenant => f.write_str("the row is another tenant's"),
+            Error::NoRow => f.write_str("the file has no such row"),
+            Error::NonceUsed => f.write_str("a row of the file has this nonce"),
+            Error::FileFull => f.write_str("the file has no room for another row"),
+            Error::TenantZero => f.write_str("the tenant number is 0"),
             Error::Unknown(number) => write!(f, "the library answered {number}"),
         }
     }

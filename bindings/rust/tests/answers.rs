@@ -82,6 +82,15 @@ fn the_texts_are_those_of_the_header() {
         (Error::TextSize, "TEXT_SIZE"),
         (Error::DataSize, "DATA_SIZE"),
         (Error::TagDiffers { calls: 2 }, "TAG_DIFFERS"),
+        (Error::OutputSize, "OUTPUT_SIZE"),
+        (Error::FileSize, "FILE_SIZE"),
+        (Error::BadRow, "BAD_ROW"),
+        (Error::TrailingBytes, "TRAILING_BYTES"),
+        (Error::OtherTenant, "OTHER_TENANT"),
+        (Error::NoRow, "NO_ROW"),
+        (Error::NonceUsed, "NONCE_USED"),
+        (Error::FileFull, "FILE_FULL"),
+        (Error::TenantZero, "TENANT_ZERO"),
     ] {
         assert!(header.contains(&format!("OCB_{name} = {},", error.number())), "{name}");
         assert!(header.contains(&format!("case OCB_{name}: return \"{error}\";")), "{name}");
