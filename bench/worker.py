@@ -1,11 +1,18 @@
-"""What bench/run and bench/count share: the jobs, and the worker that is made of bench/measure.c."""
+"""What the scripts of this folder share: how a worker is built, asked, and counted by valgrind; the jobs of bench/run and bench/count; tables."""
+import argparse
 import collections
 import os
+import re
+import shutil
 import subprocess
+import sys
 
 from script import Trouble
 
+TOP = os.path.dirname(os.path.dirname(os.path.abspath(__file__)))
+ROOM = os.path.join(TOP, "target", "bench")
 KEYS = {16: "AES-128", 24: "AES-192", 32: "AES-256"}  # bytes of a key, and the cipher that they choose
+PROGRAMS = ["measure.c", "yardstick.c"]  # what the worker of the jobs below is made of
 LENGTHS = [11, 64, 1500, 4096, 65536]
 Job = collections.namedtuple("Job", "name word m length")  # the name that the tables have, and what the worker's line has
 JOBS = (
@@ -19,15 +26,80 @@ def cc():
     return os.environ.get("CC", "gcc")
 
 
-def compiled(top, words, worker):
-    """Builds the worker of a checkout, with that checkout's own header and the library that it has built."""
-    sources = [os.path.join(top, *path) for path in (("bench", "measure.c"), ("bench", "yardstick.c"), ("target", "library", "libocb_c.a"))]
+def need(*tools):
+    for tool in tools:
+        if not shutil.which(tool):
+            raise Trouble(f"needs {tool}, which is not on the path")
+
+
+def build_library():
+    if subprocess.run([os.path.join(TOP, "library", "build")], stdout=sys.stderr).returncode:
+        raise Trouble("the library was not built")
+
+
+def compiled(top, programs, words, worker):
+    """Builds a worker of a checkout, with that checkout's own programs in C and header and the library that it has built."""
+    sources = [*[os.path.join(top, "bench", program) for program in programs], os.path.join(top, "target", "library", "libocb_c.a")]
     for source in sources:
         if not os.path.isfile(source):
             raise Trouble(f"there is no {source}")
+    os.makedirs(ROOM, exist_ok=True)
     flags = ["-std=gnu11", "-Wall", "-Wextra", "-O3", "-Wl,-z,now"]  # -z now: else a first call has the dynamic linker's work in it
     if subprocess.run([cc(), *flags, f"-I{top}/include", *sources, *words, "-o", worker]).returncode:
         raise Trouble(f"the worker of {top} was not built")
+
+
+def counted(words, functions, line, what):
+    """Instructions that run inside the functions while a worker answers a line, and the words of its answer."""
+    counter = ["valgrind", "--tool=callgrind", *[f"--toggle-collect={function}" for function in functions], "--callgrind-out-file=/dev/null"]
+    done = subprocess.run([*counter, *words], input=line, text=True, capture_output=True)
+    found = re.search(r"Collected : (\d+)", done.stderr)
+    if not found or not done.stdout:
+        raise Trouble(f"valgrind counted nothing for {what}")
+    return int(found.group(1)), done.stdout.split()
+
+
+class Worker:
+    """A worker that was started. Its name is what troubles call it."""
+
+    def __init__(self, name, words, environment):
+        self.name = name
+        try:
+            self.process = subprocess.Popen(words, env={**os.environ, **environment}, stdin=subprocess.PIPE, stdout=subprocess.PIPE, text=True)
+        except OSError as error:
+            raise Trouble(f"{self.name} does not start: {error}")
+
+    def ask(self, line, what):
+        """The words of the answer to a line."""
+        try:
+            self.process.stdin.write(line)
+            self.process.stdin.flush()
+            answer = self.process.stdout.readline().split()
+        except OSError:
+            answer = []
+        if not answer:
+            raise Trouble(f"{self.name} gave no answer to {what}")
+        return answer
+
+    def stop(self):
+        self.process.stdin.close()
+        self.process.wait()
+
+
+def whole(word):
+    """A number from 1."""
+    if not word.isascii() or not word.isdigit() or int(word) == 0:
+        raise argparse.ArgumentTypeError(f"wants a number from 1, not '{word}'")
+    return int(word)
+
+
+def row(cells):
+    """A line of a table."""
+    print("| " + " | ".join(cells) + " |", flush=True)
+
+
+def microseconds(nanoseconds):
+    return f"{nanoseconds / 1000:,.{2 if nanoseconds < 10_000 else 1 if nanoseconds < 100_000 else 0}f}"
 
 
 def with_key(words, key):
