@@ -7,12 +7,12 @@
  * alone. A set-up has no text (its LENGTH is 0): 32 bytes are sealed after the last, untimed, for the digest.
  * M is the last argument of ocb_set_up. Only this project takes it; the set-ups of the others make a table of one size, whatever M is: the
  * yardstick one of 32 places, the crate, which has a worker of its own, one of 26. */
+#include "clock.h"
 #include "yardstick.h"
 #include <ocb.h>
 #include <stdio.h>
 #include <stdlib.h>
 #include <string.h>
-#include <time.h>
 #ifdef WITH_OPENSSL
 #include <openssl/evp.h>
 #endif
@@ -139,12 +139,6 @@ static const struct engine engines[] = {
 };
 
 /* ---- the jobs */
-
-static uint64_t now(void) {
-    struct timespec t;
-    clock_gettime(CLOCK_PROCESS_CPUTIME_ID, &t);
-    return (uint64_t)t.tv_sec * 1000000000u + (uint64_t)t.tv_nsec;
-}
 
 static uint64_t digest(uint64_t d, const uint8_t *bytes, size_t length) { /* FNV-1a */
     for (size_t i = 0; i < length; i++) d = (d ^ bytes[i]) * 0x100000001b3u;

@@ -54,9 +54,10 @@ def counted(words, functions, line, what):
     counter = ["valgrind", "--tool=callgrind", *[f"--toggle-collect={function}" for function in functions], "--callgrind-out-file=/dev/null"]
     done = subprocess.run([*counter, *words], input=line, text=True, capture_output=True)
     found = re.search(r"Collected : (\d+)", done.stderr)
-    if not found or not done.stdout:
+    instructions = int(found.group(1)) if found else 0
+    if not instructions or not done.stdout:
         raise Trouble(f"valgrind counted nothing for {what}")
-    return int(found.group(1)), done.stdout.split()
+    return instructions, done.stdout.split()
 
 
 class Worker:
