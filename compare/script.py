@@ -19,8 +19,9 @@ class Arguments(argparse.ArgumentParser):
 class Progress:
     """A count on standard error: one line that is written over on a terminal, else a line now and then."""
 
-    def __init__(self, total):
+    def __init__(self, total, things="cases"):
         self.total = total
+        self.things = things
         self.start = self.last = time.monotonic()
 
     def show(self, done, note):
@@ -29,7 +30,7 @@ class Progress:
         if done < self.total and now - self.last < (0.2 if terminal else 5):
             return
         self.last = now
-        line = f"{done:,} of {self.total:,} cases, {done / max(now - self.start, 0.001):,.0f} a second, {note}"
+        line = f"{done:,} of {self.total:,} {self.things}, {done / max(now - self.start, 0.001):,.0f} a second, {note}"
         print(f"\r{line}\033[K" if terminal else line, end="\n" if done == self.total or not terminal else "", file=sys.stderr, flush=True)
 
 
