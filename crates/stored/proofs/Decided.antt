@@ -2,7 +2,7 @@
 use mathlib.Core.Path.{_≡_, refl, sym, ap, _∙_}
 use mathlib.Core.Bool.{Bool, true, false, _&&_}
 use mathlib.Core.List.{List}
-use Prim.Native.Nat.{ℕ, _+_, _-_, _≤_, _<_}
+use Prim.Native.Nat.{ℕ, _+_, _-_, _*_, _≤_, _<_}
 use native.Mathlib.Nat.{add-sub-cancel-left}
 use native.Mathlib.Omega.{arith}
 use borrow.Author.Tests.{eqb-true, eq-eqb}
@@ -11,7 +11,7 @@ use lib.ListN.{length, getD, take, drop, length-take, length-drop}
 use lib.Seq.{take-all}
 use Rattle.ocb.specs.Answers.{Outcome}
 use Rattle.cases.specs.Case.{word}
-use Rattle.stored.specs.Stored.{Tells, Decides}
+use Rattle.stored.specs.Stored.{Tells, TellsFile, Decides}
 
 pub no : {P : Type 0} → (P → ⊥) → Decides false P
 no h = (λ e. absurd (let z : _≡_ {A = ℕ} 0 1 = cc in omega arith), λ p. absurd (h p))
@@ -47,4 +47,24 @@ module _ (S : List ℕ) (o : Outcome) where
         λ e. let p = parts .0 e in
             record { head = head; number = p .0 .0 .0; calls = sym is-word ∙ p .0 .0 .1; text = sym text-cut ∙ p .0 .1; tag = sym tag-cut ∙ p .1 },
         λ t. parts .1 (((t .number, is-word ∙ t .calls), text-cut ∙ t .text), tag-cut ∙ t .tag),
+      )
+
+-- ---- of a call on a spill file
+
+module _ (S : List ℕ) (number calls size : ℕ) (left : List ℕ) where
+  pub no-file-head : length S < 13 → Decides false (TellsFile S number calls size left)
+  no-file-head h = no (λ t. let z = t .head in omega arith)
+
+  left-cut : take (length S - 13) (drop 13 S) ≡ drop 13 S
+  left-cut = take-all (length S - 13) (drop 13 S) (simp length-drop (omega arith))
+
+  pub by-file-parts : {same : Bool} {low high k : ℕ} → 13 ≤ length S → low ≡ word S 5 → high ≡ word S 9 → k ≡ word S 1
+      → Decides same (take (length S - 13) (drop 13 S) ≡ left)
+      → Decides (eqb (getD S 0 0) number && eqb k calls && eqb (low + high * 4294967296) size && same) (TellsFile S number calls size left)
+  by-file-parts {same} {low} {high} {k} head el eh ek lefts =
+      let sum : low + high * 4294967296 ≡ word S 5 + 4294967296 * word S 9 = omega (arith, el, eh) in
+      let parts = both _ same (both _ _ (both _ _ (equal (getD S 0 0) number) (equal k calls)) (equal (low + high * 4294967296) size)) lefts in (
+        λ e. let p = parts .0 e in
+            record { head = head; number-is = p .0 .0 .0; calls-are = sym ek ∙ p .0 .0 .1; size-is = sym sum ∙ p .0 .1; left-is = sym left-cut ∙ p .1 },
+        λ t. parts .1 (((t .number-is, ek ∙ t .calls-are), sum ∙ t .size-is), left-cut ∙ t .left-is),
       )

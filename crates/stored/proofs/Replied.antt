@@ -9,7 +9,7 @@ use Rattle.ocb.specs.Answers.{Outcome, Leaves}
 use Rattle.ocb.specs.declared.Answer.{Answer}
 use Rattle.cases.specs.Case.{Decoded, bad, outcome}
 use Rattle.cases.proofs.Responded.{Told}
-use Rattle.stored.specs.Stored.{Tells, Owed, under, Decides}
+use Rattle.stored.specs.Stored.{Tells, Owed, under, TellsFile, Decides}
 use Rattle.stored.proofs.Decided.{equal}
 
 -- an outcome by its parts
@@ -33,3 +33,10 @@ module _ (S : List ℕ) {r : Bool} where
   by-call B N A C T way e l tells =
       subst (λ (x : Bool). Decides r (Tells S (under x B N A C T))) (sym e)
       (subst (λ (o : Outcome). Decides r (Tells S o)) (whole (under way B N A C T) (l .number) (l .calls) (l .text-left) (l .tag-left)) tells)
+
+  -- a call on a spill file
+  pub by-file : {number number' calls calls' size size' : ℕ} {left left' : List ℕ} → number ≡ number' → calls ≡ calls' → size ≡ size' → left ≡ left'
+      → Decides r (TellsFile S number calls size left) → Decides r (TellsFile S number' calls' size' left')
+  by-file {number} {number'} {calls} {calls'} {size} {size'} {left} {left'} en ek es el tells =
+      let same : TellsFile S number calls size left ≡ TellsFile S number' calls' size' left' = cc in
+      subst (λ (x : Type 0). Decides r x) same tells

@@ -1,7 +1,8 @@
 // Whether the port answers a case as a stored list says. specs/Stored.antt says how an answer is stored.
 use cases::Reply;
 ghost use Rattle.cases.specs.Case.{decode};
-ghost use Rattle.stored.specs.Stored.{Tells, Owed, under, Decides};
+ghost use Rattle.ocb_c.specs.Lent.{readIn, addedIn};
+ghost use Rattle.stored.specs.Stored.{Tells, Owed, under, TellsFile, TellsRead, TellsAdd, Decides};
 
 // The stored bytes tell this number, count, text and tag, and nothing else.
 fn tells(stored: &[u8], number: usize, calls: usize, text: &[u8], tag: &[u8]) -> bool
@@ -60,4 +61,75 @@ pub fn agrees_under(
     }
     let number = ocb_c::ocb_seal(state, nonce, ad, text, tag, &mut calls);
     tells(stored, number, calls, text, tag)
+}
+
+// The stored bytes tell this number, count, length and output or buffer, and nothing else.
+fn tells_file(stored: &[u8], number: usize, calls: usize, size: usize, left: &[u8]) -> bool
+    ensures { λ r. ⌜ Decides r (TellsFile (now (stored .entry)) number calls size (now (left .entry))) ⌝ }
+{
+    if stored.len() < 13 {
+        return false;
+    }
+    let low = block::load_le32(stored, 5);
+    let high = block::load_le32(stored, 9);
+    let same_number = stored[0] as usize == number;
+    let same_calls = block::load_le32(stored, 1) == calls;
+    let same_size = low + high * 4294967296 == size;
+    let same_left = check::same(&stored[13..], left);
+    same_number & same_calls & same_size & same_left
+}
+
+// The row is read as it is stored, under a state in a buffer as crate ocb_c has it.
+pub fn agrees_read(
+    state: &[u8],
+    buffer: &[u8],
+    file: usize,
+    row: usize,
+    tenant: u32,
+    out: &mut [u8],
+    stored: &[u8],
+) -> bool
+    ensures { λ r. ⌜ Decides r (TellsRead (now (stored .entry)) (readIn (now (state .entry)) (now (buffer .entry)) file row tenant (now (out .entry)))) ⌝ }
+{
+    let mut written = 0;
+    let mut calls = 0;
+    let number = ocb_c::spill_read(
+        state,
+        buffer,
+        file,
+        row,
+        tenant,
+        out,
+        &mut written,
+        &mut calls,
+    );
+    tells_file(stored, number, calls, written, out)
+}
+
+// The row is added as it is stored.
+pub fn agrees_add(
+    state: &[u8],
+    buffer: &mut [u8],
+    file: usize,
+    nonce: &[u8],
+    tenant: u32,
+    text: &[u8],
+    stored: &[u8],
+) -> bool
+    ensures { λ r. ⌜ Decides r (TellsAdd (now (stored .entry))
+        (addedIn (now (state .entry)) (now (buffer .entry)) file (now (nonce .entry)) tenant (now (text .entry)))) ⌝ }
+{
+    let mut length = 0;
+    let mut calls = 0;
+    let number = ocb_c::spill_add(
+        state,
+        buffer,
+        file,
+        nonce,
+        tenant,
+        text,
+        &mut length,
+        &mut calls,
+    );
+    tells_file(stored, number, calls, length, buffer)
 }
