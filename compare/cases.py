@@ -81,10 +81,11 @@ def unframed(stream):
 
 
 # A list: the mark, how many entries it has, and the entries, whose parts are frames. The last part is what is stored of the answer: nothing for a bad case,
-# else the number (one byte), the count of cipher calls (four, little-endian) and text and tag as they stand afterwards.
+# else the number (one byte), the count of cipher calls (four, little-endian) and text and tag as they stand afterwards; spill.py has that of a spill file.
 CASES = b"OCBLIST2"  # an entry: the case, the answer
 CALLS = b"OCBSTAT1"  # an entry: 0 seal or 1 open, the state, nonce, data, text and tag, the answer
-PARTS = {CASES: 2, CALLS: 7}
+SPILL = b"OCBSPIL1"  # an entry: 0 read or 1 addition, the state, the buffer, the file's length, row, tenant, nonce, output or text, the answer
+PARTS = {CASES: 2, CALLS: 7, SPILL: 9}
 OUTCOME = struct.Struct("<BI")
 
 

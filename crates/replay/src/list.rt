@@ -12,6 +12,16 @@ pub struct Tally {
     pub whole: bool,
 }
 
+// What the entries of a list are: cases, calls under states, or calls on spill files.
+enum Kind {
+    Cases,
+    Calls,
+    Files,
+}
+
+// Room for the buffer, the output or the text of a call on a spill file, and for an answer.
+const FILE_ROOM: usize = 65664;
+
 // Bytes with their length before them, as they were read: how many there are, and whether all are there.
 struct Frame {
     size: usize,
@@ -126,9 +136,81 @@ fn next_call(fd: i32) -> Step {
     call_under(fd, &state[..n], way[0] == 1)
 }
 
-// Runs the next entry: of a list of calls under states, or of cases.
-fn next_entry(fd: i32, calls: bool) -> Step {
-    if calls { next_call(fd) } else { next_case(fd) }
+// The number that eight bytes are, the lowest first.
+fn wide(bytes: [u8; 8]) -> usize {
+    block::load_le32(&bytes, 0) + block::load_le32(&bytes, 4) * 4294967296
+}
+
+// Runs the reading or the addition that follows in an entry, on a file under a state.
+fn file_call(fd: i32, state: &[u8], buffer: &mut [u8], file: usize, adds: bool) -> Step {
+    let mut row = [0u8; 8];
+    let row_read = read_frame(fd, &mut row);
+    let mut tenant = [0u8; 4];
+    let tenant_read = read_frame(fd, &mut tenant);
+    let mut nonce = [0u8; 64];
+    let nonce_read = read_frame(fd, &mut nonce);
+    let mut text = [0u8; FILE_ROOM];
+    let text_read = read_frame(fd, &mut text);
+    let mut answer = [0u8; FILE_ROOM];
+    let answer_read = read_frame(fd, &mut answer);
+    if !(row_read.whole
+        & tenant_read.whole
+        & nonce_read.whole
+        & text_read.whole
+        & answer_read.whole) {
+        return Step::Cut;
+    }
+    let who = block::load_le32(&tenant, 0) as u32;
+    let nonces = nonce_read.size;
+    let texts = text_read.size;
+    let answers = answer_read.size;
+    if adds {
+        return compared(stored::agrees_add(
+            state,
+            buffer,
+            file,
+            &nonce[..nonces],
+            who,
+            &text[..texts],
+            &answer[..answers],
+        ));
+    }
+    compared(stored::agrees_read(
+        state,
+        buffer,
+        file,
+        wide(row),
+        who,
+        &mut text[..texts],
+        &answer[..answers],
+    ))
+}
+
+// Runs the next entry of a list of calls on spill files.
+fn next_file(fd: i32) -> Step {
+    let mut way = [0u8; 1];
+    let way_read = read_frame(fd, &mut way);
+    let mut state = [0u8; 728];
+    let state_read = read_frame(fd, &mut state);
+    let mut buffer = [0u8; FILE_ROOM];
+    let buffer_read = read_frame(fd, &mut buffer);
+    let mut file = [0u8; 8];
+    let file_read = read_frame(fd, &mut file);
+    if !(way_read.whole & state_read.whole & buffer_read.whole & file_read.whole) {
+        return Step::Cut;
+    }
+    let n = state_read.size;
+    let k = buffer_read.size;
+    file_call(fd, &state[..n], &mut buffer[..k], wide(file), way[0] == 1)
+}
+
+// Runs the next entry of a list of that kind.
+fn next_entry(fd: i32, kind: Kind) -> Step {
+    match kind {
+        Kind::Cases => next_case(fd),
+        Kind::Calls => next_call(fd),
+        Kind::Files => next_file(fd),
+    }
 }
 
 // The file has no more bytes.
@@ -138,13 +220,13 @@ fn ended(fd: i32) -> bool {
 }
 
 // Runs the entries that follow the mark of a list.
-fn run_entries(fd: i32, calls: bool) -> Tally {
+fn run_entries(fd: i32, kind: Kind) -> Tally {
     let entries = number(fd);
     let mut agreed = 0;
     let mut wrong = 0;
     let mut i = 0;
     while i < entries {
-        match next_entry(fd, calls) {
+        match next_entry(fd, kind) {
             Step::Cut => {
                 break;
             }
@@ -173,10 +255,13 @@ pub fn run(fd: i32) -> Tally {
     let mut mark = [0u8; 8];
     io::read_full(fd, &mut mark);
     if check::same(&mark, b"OCBLIST2") {
-        return run_entries(fd, false);
+        return run_entries(fd, Kind::Cases);
     }
     if check::same(&mark, b"OCBSTAT1") {
-        return run_entries(fd, true);
+        return run_entries(fd, Kind::Calls);
+    }
+    if check::same(&mark, b"OCBSPIL1") {
+        return run_entries(fd, Kind::Files);
     }
     Tally {
         marked: false,

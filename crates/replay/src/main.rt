@@ -53,6 +53,8 @@ fn main() {
     replay(b"departures.list");
     replay(b"long.list");
     replay(b"states.list");
+    replay(b"spill.list");
     replay(b"wrong.list");
     replay(b"wrong-states.list");
+    replay(b"wrong-spill.list");
 }
