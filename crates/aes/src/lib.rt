@@ -1,5 +1,7 @@
 // AES (FIPS 197) with keys of 16, 24 and 32 bytes. What crates above may use of encipher and decipher is their contracts and proofs/Promise.antt.
 // Whoever works on many blocks names encipher_tables() and decipher_tables() once and lends them to encipher_with and decipher_with.
+#![tactic(auto)]
+
 mod blocks;
 mod key;
 mod rounds;

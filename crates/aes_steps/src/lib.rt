@@ -1,4 +1,6 @@
 // The steps of a round (FIPS 197, 5.1) on the state, four columns of four bytes, which goes through each by value.
+#![tactic(auto)]
+
 pub mod inverse; // inverse.rt: the inverse steps
 
 ghost use Rattle.std.specs.Prelude.{◌≡◌, ◌+◌, ◌*◌, ◌<◌, length};

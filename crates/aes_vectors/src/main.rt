@@ -1,4 +1,6 @@
 // Runs the published AES examples of FIPS 197 and NIST SP 800-38A through the crate aes, and prints for each list how many agree.
+#![tactic(auto)]
+
 mod hex; // hex.rt: bytes from hexadecimal text
 mod vectors; // vectors.rt: the values
 
@@ -11,7 +13,7 @@ use vectors::{Case, Four, Key, Schedule};
 // Of the longest schedule.
 const WORDS: usize = ROUND_KEY_BYTES / 4;
 
-#[derive(Drop)]
+#[derive(Clone, Copy)]
 struct Expanded {
     keys: RoundKeys,
     rounds: usize,
@@ -57,7 +59,7 @@ fn deciphers(c: Case) -> bool {
 }
 
 // How many of a list agree, and which is the first that does not, counted from 1; 0 where all agree.
-#[derive(Drop)]
+#[derive(Clone, Copy)]
 struct Tally {
     right: usize,
     wrong: usize,

@@ -3,7 +3,7 @@ use crate::hex::{block, unhex};
 use sizes::{Block, KEY_256, ROUND_KEY_BYTES, RoundKeys};
 
 // A key of the length given, at the front of the longest one's place.
-#[derive(Drop)]
+#[derive(Clone, Copy)]
 pub struct Key {
     pub bytes: [u8; KEY_256],
     pub length: usize,
@@ -21,7 +21,7 @@ fn read_key(text: &[u8]) -> Key {
 // ---- Key schedules
 
 // A key, and the words of its schedule with zeros behind them.
-#[derive(Drop)]
+#[derive(Clone, Copy)]
 pub struct Schedule {
     pub key: Key,
     pub words: RoundKeys,
@@ -81,7 +81,7 @@ pub fn fips_197_a_3() -> Schedule {
 // ---- Blocks
 
 // A block, and what the key's cipher makes of it.
-#[derive(Drop)]
+#[derive(Clone, Copy)]
 pub struct Case {
     pub key: Key,
     pub plain: Block,
@@ -132,7 +132,7 @@ pub fn fips_197_c_3() -> Case {
     )
 }
 
-#[derive(Drop)]
+#[derive(Clone, Copy)]
 pub struct Four {
     pub first: Case,
     pub second: Case,

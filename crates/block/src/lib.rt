@@ -1,5 +1,7 @@
 // Blocks of sixteen bytes and numbers in bytes: what the modes above are made of.
 // Where a function takes a place in a slice, its `requires` says how much of the slice has to lie there.
+#![tactic(auto)]
+
 ghost use Rattle.std.specs.Prelude.{◌≡◌, ◌++◌, ◌+◌, ◌/◌, ◌^◌, ◌≤◌, ◌<◌, length, get_or, take, drop};
 ghost use Rattle.standards.specs.Strings.{◌xor◌, zeros, num, to_bytes};
 ghost use Rattle.standards.specs.Rfc7253 as rfc;
@@ -69,7 +71,7 @@ pub fn double(b: Block) -> Block
 // ---- Blocks in two words
 
 // The high word is a block's first eight bytes, the low word its last eight.
-#[derive(Drop)]
+#[derive(Clone, Copy)]
 pub struct Halves {
     pub high: u64,
     pub low: u64,
@@ -223,12 +225,24 @@ pub fn store_le32(s: &mut [u8], at: usize, n: usize)
 
 // ---- Copying and clearing
 
+// Writes from over the front of to, as far as that goes.
+pub fn copy(from: &[u8], to: &mut [u8])
+    ensures { to.new ≡ take (length to.old) from.now ++ drop (length from.now) to.old }
+{
+    let n = if from.len() < to.len() {
+        from.len()
+    } else {
+        to.len()
+    };
+    to[..n].copy_from_slice(&from[..n]);
+}
+
 // Writes from over s, from place at on.
 pub fn copy_at(s: &mut [u8], at: usize, from: &[u8])
     requires { at + length from.now ≤ length s.old }
     ensures { s.new ≡ take at s.old ++ (from.now ++ drop (at + length from.now) s.old) }
 {
-    bytes::copy(from, &mut s[at..]);
+    copy(from, &mut s[at..]);
 }
 
 // Makes every byte of s zero.

@@ -1,5 +1,7 @@
 // A case of the test program: its bytes are read, it is answered through ocb, and the answer is written as text.
 // Any bytes of any length get an answer.
+#![tactic(auto)]
+
 mod table; // table.rt: what the first 22 bytes of a case say
 
 ghost use Rattle.std.specs.Prelude.{◌≡◌, ◌+◌, ◌≤◌, ◌<◌, length};
@@ -13,7 +15,7 @@ use ocb::Answer;
 use table::{Found, Table};
 
 // What is said of a case. The text and the tag of an answer stand at the front of two lent buffers, in so many bytes; NoRoom: one of them is too small.
-#[derive(Drop)]
+#[derive(Clone, Copy)]
 pub enum Reply {
     Bad,
     NoRoom,

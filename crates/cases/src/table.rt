@@ -3,7 +3,7 @@ ghost use Rattle.std.specs.Prelude.{◌≡◌};
 ghost use Rattle.cases.specs.Places.{found};
 
 // Whether to open, m, and where each body behind the key begins. The key begins at 22, and the last body ends at end.
-#[derive(Drop)]
+#[derive(Clone, Copy)]
 pub struct Table {
     pub opens: bool,
     pub m: usize,
@@ -15,7 +15,7 @@ pub struct Table {
 }
 
 // What a case is: of bad form, or with its bodies at the places of a table.
-#[derive(Drop)]
+#[derive(Clone, Copy)]
 pub enum Found {
     Bad,
     Good(Table),

@@ -1,5 +1,7 @@
 // The field GF(2^8) of FIPS 197, section 4, and the tables of section 5: S-box, inverse S-box and round constants.
 // A table is named once by whoever works with it, and lent down: a const that is named in a leaf is built anew at each call.
+#![tactic(auto)]
+
 mod inv_sbox_table;
 mod sbox_table;
 

@@ -1,5 +1,7 @@
 // An answer as text, put into a lent buffer from a place on: bytes as they are, numbers in decimal, bytes in hex. Each function gives the place behind what it
 // put.
+#![tactic(auto)]
+
 ghost use Rattle.std.specs.Prelude.{◌≡◌, ◌+◌, ◌*◌, ◌≤◌, ◌<◌, length};
 ghost use Rattle.io.specs.Digits.{hex_digit_ascii};
 ghost use Rattle.lines.specs.Text.{Puts, decimal, hex, named, numbers_line, hex_line, lines};

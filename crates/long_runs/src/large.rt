@@ -18,7 +18,7 @@ fn fill(s: &mut [u8], first: usize)
 }
 
 // Two sums over bytes.
-#[derive(Drop)]
+#[derive(Clone, Copy)]
 struct Pair {
     first: u64,
     second: u64,

@@ -1,5 +1,7 @@
 // Runs RFC 7253's iterated tests and a text of 2^20 + 5 bytes, and prints what they end in. The file `stdout` has what is owed: the values that RFC 7253 publishes,
 // and what the crate ocb3 and OpenSSL give for the long text. `compare/make-lists` writes it.
+#![tactic(auto)]
+
 mod iterated; // iterated.rt: RFC 7253, appendix A, the test over a wider range
 mod large; // large.rt: a text of 2^20 + 5 bytes
 mod say; // say.rt: what is written

@@ -1,5 +1,7 @@
 // OCB3 (RFC 7253) over AES (FIPS 197): the entry points. Every input is answered. What each number leaves stands in specs/Answers.antt,
 // and what follows from it for states made from a key in proofs/Demands.antt.
+#![tactic(auto)]
+
 ghost use Rattle.std.specs.Prelude.{◌≡◌, length};
 ghost use Rattle.sizes.specs.Sizes.{Rounds};
 ghost use Rattle.ocb_numbers.specs.Numbers.{InRange};
@@ -11,14 +13,14 @@ use ocb_variables::{KeyValues, State};
 use sizes::{ROUND_KEY_BYTES, RoundKeys, TABLE_BYTES, Table};
 
 // What set_up gives: its number, and the state to seal and open with.
-#[derive(Drop)]
+#[derive(Clone, Copy)]
 pub struct SetUp {
     pub number: usize,
     pub state: State,
 }
 
 // What seal and open give: the number, and how many blocks went to the cipher.
-#[derive(Drop)]
+#[derive(Clone, Copy)]
 pub struct Answer {
     pub number: usize,
     pub calls: usize,

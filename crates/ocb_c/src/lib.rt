@@ -1,6 +1,8 @@
 // OCB3 over AES and spill files for programs in C and Rust: exported functions over numbers and byte slices. A slice is passed as its address and then
 // its length. The state of a key lives in a buffer that the caller lends; specs/Buffer.antt says how it lies there. include/ocb.h is the
 // same for a reader of C.
+#![tactic(auto)]
+
 ghost use Rattle.std.specs.Prelude.{◌≡◌, length};
 ghost use Rattle.ocb.specs.Answers.{Leaves};
 ghost use Rattle.ocb_c.specs.Buffer.{state_size, encoded, decoded};
@@ -31,13 +33,13 @@ fn decode(buffer: &[u8]) -> State
     ensures { result ≡ decoded buffer.now }
 {
     let mut round_keys = [0u8; ROUND_KEY_BYTES];
-    bytes::copy(&buffer[0..ROUNDS_AT], &mut round_keys);
+    block::copy(&buffer[0..ROUNDS_AT], &mut round_keys);
     let rounds = block::load_be64(buffer, ROUNDS_AT) as usize;
     let star = block::load(buffer, STAR_AT);
     let dollar = block::load(buffer, DOLLAR_AT);
     let m = block::load_be64(buffer, M_AT) as usize;
     let mut table = [0u8; TABLE_BYTES];
-    bytes::copy(&buffer[TABLE_AT..STATE_SIZE], &mut table);
+    block::copy(&buffer[TABLE_AT..STATE_SIZE], &mut table);
     let values = KeyValues {
         rounds: rounds,
         star: star,

@@ -1,5 +1,7 @@
 // The test program: reads one case from standard input and writes what is said of it. The buffer holds more than the longest case has, so a case with
 // too many bytes is seen to have them.
+#![tactic(auto)]
+
 use libc::{STDIN_FILENO, STDOUT_FILENO};
 
 fn main() {

@@ -53,7 +53,7 @@ pub fn pad(p: &[u8]) -> Block
 {
     let n = p.len();
     let mut r = [0u8; 16];
-    bytes::copy(p, &mut r);
+    block::copy(p, &mut r);
     r[n] = 0x80;
     r
 }

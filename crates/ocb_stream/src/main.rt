@@ -1,5 +1,7 @@
 // Answers a stream of cases from standard input until its end: a length of four bytes, the lowest first, and a case of so many bytes; for each it writes
 // a length and what the test program writes. A stream that ends inside a case ends the answers.
+#![tactic(auto)]
+
 ghost use Rattle.std.specs.Prelude.{◌≤◌};
 ghost use Rattle.io.specs.Counts.{IsPrefixLen};
 

@@ -1,5 +1,7 @@
 // What depends on the key and what depends on the nonce (RFC 7253, sections 4.1 and 4.2): the L values, the nonce block, Stretch and
 // the first offset. The cipher's tables and the round keys are lent down, not copied. t is a tag's length in bytes.
+#![tactic(auto)]
+
 ghost use Rattle.std.specs.Prelude.{◌≡◌, ◌≤◌, ◌<◌, length};
 ghost use Rattle.sizes.specs.Sizes.{Rounds, m_most};
 ghost use Rattle.standards.specs.InBytes.{nonce_block, stretch_of, cut_of, initial_offset};
@@ -14,7 +16,7 @@ use sizes::{Block, RoundKeys, TABLE_BYTES, Table};
 // ---- Key-dependent variables
 
 // What goes by value wherever round keys and table are lent: the number of rounds, L_*, L_$, and m: the table is filled to L_m.
-#[derive(Drop)]
+#[derive(Clone, Copy)]
 pub struct KeyValues {
     pub rounds: usize,
     pub star: Block,
@@ -23,7 +25,7 @@ pub struct KeyValues {
 }
 
 // What a key is made into. Block i of the table is L_i up to L_m; the others are zero.
-#[derive(Drop)]
+#[derive(Clone, Copy)]
 pub struct State {
     pub round_keys: RoundKeys,
     pub values: KeyValues,
@@ -105,7 +107,7 @@ fn stretch_of(ktop: Block) -> [u8; 24]
     stretch
 }
 
-#[derive(Drop)]
+#[derive(Clone, Copy)]
 pub struct NonceVariables {
     pub bottom: usize,
     pub stretch: [u8; 24],

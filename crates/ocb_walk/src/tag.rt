@@ -53,5 +53,5 @@ pub fn write_tag(computed: Block, place: &mut [u8])
 {
     let n = place.len();
     let front = &computed[..n];
-    bytes::copy(front, place);
+    block::copy(front, place);
 }

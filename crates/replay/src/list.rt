@@ -4,7 +4,7 @@ ghost use Rattle.io.specs.Counts.{IsPrefixLen};
 
 // How a list came out: whether it starts as a list, how many entries it says to have, how many of them agree, the first that does not, counted from 1, or 0,
 // and whether it has just those entries, each of good form.
-#[derive(Drop)]
+#[derive(Clone, Copy)]
 pub struct Tally {
     pub marked: bool,
     pub entries: usize,
@@ -14,7 +14,7 @@ pub struct Tally {
 }
 
 // What the entries of a list are: cases, calls under states, or calls on spill files.
-#[derive(Drop)]
+#[derive(Clone, Copy)]
 enum Kind {
     Cases,
     Calls,
@@ -25,14 +25,14 @@ enum Kind {
 const FILE_ROOM: usize = 65664;
 
 // Bytes with their length before them, as they were read: how many there are, and whether all are there.
-#[derive(Drop)]
+#[derive(Clone, Copy)]
 struct Frame {
     size: usize,
     whole: bool,
 }
 
 // What came of an entry. Cut: it is not whole, or a length in it is longer than that of any good case or answer.
-#[derive(Drop)]
+#[derive(Clone, Copy)]
 enum Step {
     Agrees,
     Differs,

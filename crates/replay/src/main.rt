@@ -1,4 +1,6 @@
 // Runs the stored lists and prints a line for each with what came of it. data/README.md says what the lists hold and where they come from.
+#![tactic(auto)]
+
 mod list; // list.rt: the entries of a list
 
 use libc::STDOUT_FILENO;

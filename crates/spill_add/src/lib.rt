@@ -1,4 +1,6 @@
 // Adding a row to a spill file, in place. What each number leaves stands in spill_form/specs/Adding.antt, and what follows from it in proofs/Additions.antt.
+#![tactic(auto)]
+
 ghost use Rattle.std.specs.Prelude.{◌≡◌, cond, ◌≤◌, ◌<◌, eqb, length};
 ghost use Rattle.standards.specs.Rfc7253.{same};
 ghost use Rattle.ocb_numbers.specs.Numbers.{refusal};
@@ -85,7 +87,7 @@ fn refuse_seal(v: KeyValues, nonce: usize, text: usize) -> usize
 }
 
 // What adding gives: the number, how many blocks went to the cipher, and the file's length afterwards.
-#[derive(Drop)]
+#[derive(Clone, Copy)]
 pub struct Addition {
     pub number: usize,
     pub calls: usize,

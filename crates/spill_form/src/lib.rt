@@ -1,4 +1,6 @@
 // A spill file's bytes: its form, where a row stands and what is in it, and whether a file is accepted.
+#![tactic(auto)]
+
 ghost use Rattle.std.specs.Prelude.{◌≡◌, true, ◌+◌, ◌^◌, ◌≤◌, ◌<◌, length};
 ghost use Rattle.spill_form.specs.File.{most_bytes, tags_in_bodies, word_at, count, row_at, running, flawed, content_number, file_number};
 ghost use Rattle.spill_form.specs.Accepted.{Tabled, HasRow, Passed};
@@ -10,7 +12,7 @@ pub const MOST_ROWS: usize = 256;
 pub const MOST_BYTES: usize = 65536;
 
 // How many of a tag's sixteen bytes stand in the row. The rest of them stand behind the ciphertext.
-#[derive(Drop)]
+#[derive(Clone, Copy)]
 pub struct Form {
     pub tag_in_row: usize,
 }
@@ -72,7 +74,7 @@ fn flawed(f: Form, s: &[u8], i: usize, run: usize) -> bool
 }
 
 // How many rows are without flaw, from the first on, and the place behind their bodies.
-#[derive(Drop)]
+#[derive(Clone, Copy)]
 struct Progress {
     rows: usize,
     run: usize,

@@ -1,5 +1,7 @@
 // A row and a body laid into a buffer behind the rows and bodies of a spill file: the bodies move up, the text is sealed behind them, and the row, the count
 // and the places are written. Each byte that was there is moved at most once.
+#![tactic(auto)]
+
 ghost use Rattle.std.specs.Prelude.{◌≡◌, ◌++◌, ◌+◌, ◌≤◌, length};
 ghost use Rattle.block.specs.Words.{le_bytes};
 ghost use Rattle.spill_form.specs.File.{most_rows, row_at};
@@ -59,7 +61,7 @@ fn write_row(
 }
 
 // What sealing a text gives: how many blocks went to the cipher, and the tag.
-#[derive(Drop)]
+#[derive(Clone, Copy)]
 struct Sealed {
     calls: usize,
     tag: Block,

@@ -1,4 +1,6 @@
 // Reading a row of a spill file. What each number leaves stands in spill_form/specs/Reading.antt, and what follows from it in proofs/Isolation.antt.
+#![tactic(auto)]
+
 ghost use Rattle.std.specs.Prelude.{◌≡◌, ◌++◌, ◌+◌, ◌≤◌, ◌<◌, length};
 ghost use Rattle.ocb.specs.Answers.{opened};
 ghost use Rattle.spill_form.specs.File.{most_bytes, bytes_at, tags_in_bodies, row_size, least_body, count};
@@ -12,7 +14,7 @@ use sizes::Block;
 use spill_form::Form;
 
 // What reading gives: the number, how many blocks went to the cipher, and how many bytes of the output were written.
-#[derive(Drop)]
+#[derive(Clone, Copy)]
 pub struct Reply {
     pub number: usize,
     pub calls: usize,
