@@ -1,18 +1,29 @@
-use Rattle.std.proofs.Common.{rules, ◌≡◌, ◌++◌, ◌+◌, ◌/◌, ◌^◌, ◌≤◌, ◌<◌, length, get_or, take, drop, ℕ, ◌-◌, ◌*◌, ◌%◌, Bool, true, false, nat_eq, nat_lt, List, [], ◌∷◌, slice_set, bit_and, bit_or, Fits, w8, w32, w64, Bor, MutBor}
-use Rattle.standards.specs.Strings.{◌xor◌, zeros, num, to_bytes}
-use Rattle.standards.specs.Rfc7253 as rfc
-use Rattle.block.specs.Words.{le, le_bytes}
-use Rattle.block.specs.Halves.{block_of}
+-- `block::clear` meets its contract. The loop's invariant: the first `i` bytes are zero, and the others as they were. Assumes nothing.
+use mathlib.Core.Path.{◌≡◌, refl, ap, ◌∙◌}
+use mathlib.Core.List.{List, ◌++◌, append-nil}
+use Prim.Native.Nat.{ℕ}
+use native.Mathlib.Omega.{arith}
+use borrow.Author.Fill.{fill_more}
+use borrow.Author.Rules.{rules}
+use lib.ListN.{length, set, length-set, drop_of_length-le}
+use Rattle.standards.specs.Strings.{zeros}
 use Rattle.block.proofs.clear.Goals as goal
 
--- src/lib.rt:254:5
 pub loop-i-init : goal.loop-i-init
-loop-i-init c = ?
+loop-i-init c = (search rules, refl, refl, refl)
 
--- src/lib.rt:254:5
 pub loop-i-preserved : goal.loop-i-preserved
-loop-i-preserved c = ?
+loop-i-preserved c =
+    let l = c.loop-i in
+    let s : List ℕ = c.args.s.now in
+    (omega arith, refl, simp length-set l.invariant.2, ap (λ (x : List ℕ). set x l.i 0) l.invariant.3 ∙ fill_more l.i 0 s (omega arith))
 
--- src/lib.rt:249:1
 pub returns : goal.returns
-returns c = ?
+returns c =
+    let l = c.loop-i in
+    let s : List ℕ = c.args.s.now in
+    let e : l.i ≡ length s = omega arith in
+    l.invariant.3
+    ∙ ap (λ (x : List ℕ). zeros l.i ++ x) (drop_of_length-le s {i = l.i} (omega arith))
+    ∙ append-nil (zeros l.i)
+    ∙ ap zeros e

@@ -1,10 +1,23 @@
-use Rattle.std.proofs.Common.{rules, ◌≡◌, ◌++◌, ◌+◌, ◌/◌, ◌^◌, ◌≤◌, ◌<◌, length, get_or, take, drop, ℕ, ◌-◌, ◌*◌, ◌%◌, Bool, true, false, nat_eq, nat_lt, List, [], ◌∷◌, slice_set, bit_and, bit_or, Fits, w8, w32, w64, Bor, MutBor}
-use Rattle.standards.specs.Strings.{◌xor◌, zeros, num, to_bytes}
-use Rattle.standards.specs.Rfc7253 as rfc
-use Rattle.block.specs.Words.{le, le_bytes}
-use Rattle.block.specs.Halves.{block_of}
+-- `block::double_halves` meets its contract: the bit carried is the low word's top bit, the bit lost the high word's. Assumes nothing.
+use mathlib.Core.Path.{◌≡◌, sym, ap₂, ◌∙◌}
+use mathlib.Core.List.{◌++◌}
+use Prim.Native.Nat.{ℕ, ◌*◌, ◌/◌, ◌%◌, ◌^◌}
+use native.Mathlib.Omega.{arith}
+use borrow.Author.Rules.{rules}
+use lib.Bits.{bit_or}
+use Rattle.standards.specs.Strings.{◌⊕◌, to_bytes}
+use Rattle.block.specs.declared.Halves.{Halves}
+use Rattle.block.proofs.DoubleLaws.{double_words}
 use Rattle.block.proofs.double_halves.Goals as goal
 
--- src/lib.rt:99:1
 pub returns : goal.returns
-returns c = ?
+-- `block::double_halves` meets its contract: the bit carried is the low word's top bit, the bit lost the high word's. Assumes nothing.
+unfolding ◌⊕◌
+returns c =
+    let x : Halves = c.args.x in
+    let carried = c.top_bit-carried in
+    let lost = c.top_bit-lost in
+    let low-top : carried.result ≡ x.low / 2 ^ 63 = omega (arith, carried.ensures) in
+    let high-top : lost.result ≡ x.high / 2 ^ 63 = omega (arith, lost.ensures) in
+    ap₂ (λ (a b : ℕ). to_bytes 8 (bit_or (x.high * 2 % 2 ^ 64) a) ++ to_bytes 8 (x.low * 2 % 2 ^ 64 ⊕ b * 0x87)) low-top high-top
+    ∙ sym (double_words x.high x.low (search rules) (search rules))

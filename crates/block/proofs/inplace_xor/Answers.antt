@@ -1,18 +1,31 @@
-use Rattle.std.proofs.Common.{rules, ◌≡◌, ◌++◌, ◌+◌, ◌/◌, ◌^◌, ◌≤◌, ◌<◌, length, get_or, take, drop, ℕ, ◌-◌, ◌*◌, ◌%◌, Bool, true, false, nat_eq, nat_lt, List, [], ◌∷◌, slice_set, bit_and, bit_or, Fits, w8, w32, w64, Bor, MutBor}
-use Rattle.standards.specs.Strings.{◌xor◌, zeros, num, to_bytes}
-use Rattle.standards.specs.Rfc7253 as rfc
-use Rattle.block.specs.Words.{le, le_bytes}
-use Rattle.block.specs.Halves.{block_of}
+-- `block::inplace_xor` meets its contract. The loop's invariant: `a` is xored with the first `i` bytes of `b`. Assumes nothing.
+use mathlib.Core.Path.{◌≡◌, refl, ap, ◌∙◌}
+use Prim.Native.Nat.{ℕ}
+use native.Mathlib.Omega.{arith}
+use borrow.Author.Rules.{rules}
+use lib.ListN.{length, take, length-set}
+use Rattle.standards.specs.Strings.{◌⊕◌, ◌xor◌}
+use Rattle.block.proofs.StringLaws.{xor_turn, xor_take}
 use Rattle.block.proofs.inplace_xor.Goals as goal
 
--- src/lib.rt:46:5
 pub loop-i-init : goal.loop-i-init
-loop-i-init c = ?
+unfolding ◌xor◌
+loop-i-init c = (search rules, refl, refl, refl, search rules, search rules)
 
--- src/lib.rt:46:5
 pub loop-i-preserved : goal.loop-i-preserved
-loop-i-preserved c = ?
+unfolding ◌⊕◌
+loop-i-preserved c =
+    let l = c.loop-i in (
+      omega arith,
+      refl,
+      simp length-set l.invariant.2,
+      xor_turn c.args.a.now c.args.b l.a l.i (omega arith) l.invariant.3,
+      l.invariant.4,
+      l.invariant.5,
+    )
 
--- src/lib.rt:40:1
 pub returns : goal.returns
-returns c = ?
+returns c =
+    let l = c.loop-i in
+    let e : l.i ≡ length c.args.a.now = omega arith in
+    l.invariant.3 ∙ ap (λ (k : ℕ). c.args.a.now xor take k c.args.b) e ∙ xor_take c.args.a.now c.args.b

@@ -1,10 +1,12 @@
-use Rattle.std.proofs.Common.{rules, ◌≡◌, ◌++◌, ◌+◌, ◌/◌, ◌^◌, ◌≤◌, ◌<◌, length, get_or, take, drop, ℕ, ◌-◌, ◌*◌, ◌%◌, Bool, true, false, nat_eq, nat_lt, List, [], ◌∷◌, slice_set, bit_and, bit_or, Fits, w8, w32, w64, Bor, MutBor}
-use Rattle.standards.specs.Strings.{◌xor◌, zeros, num, to_bytes}
-use Rattle.standards.specs.Rfc7253 as rfc
-use Rattle.block.specs.Words.{le, le_bytes}
-use Rattle.block.specs.Halves.{block_of}
+-- `block::load_le32` meets its contract: four bytes by their weights. Assumes nothing.
+use native.Mathlib.Omega.{arith}
+use Rattle.block.proofs.WordLaws.{le_read}
 use Rattle.block.proofs.load_le32.Goals as goal
 
--- src/lib.rt:201:1
 pub returns : goal.returns
-returns c = ?
+-- `block::load_le32` meets its contract: four bytes by their weights. Assumes nothing.
+returns c =
+    let sum =
+    le_read c.args.s.now c.args.at c.requires c.byte-a.ensures.0 c.byte-b.ensures.0
+    c.byte-c.ensures.0 c.byte-d.ensures.0 in
+    (omega arith, omega arith)

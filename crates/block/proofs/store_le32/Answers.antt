@@ -1,10 +1,6 @@
-use Rattle.std.proofs.Common.{rules, ◌≡◌, ◌++◌, ◌+◌, ◌/◌, ◌^◌, ◌≤◌, ◌<◌, length, get_or, take, drop, ℕ, ◌-◌, ◌*◌, ◌%◌, Bool, true, false, nat_eq, nat_lt, List, [], ◌∷◌, slice_set, bit_and, bit_or, Fits, w8, w32, w64, Bor, MutBor}
-use Rattle.standards.specs.Strings.{◌xor◌, zeros, num, to_bytes}
-use Rattle.standards.specs.Rfc7253 as rfc
-use Rattle.block.specs.Words.{le, le_bytes}
-use Rattle.block.specs.Halves.{block_of}
+-- `block::store_le32` meets its contract: four stores, each within the slice. Assumes nothing.
+use Rattle.block.proofs.WordLaws.{le_written}
 use Rattle.block.proofs.store_le32.Goals as goal
 
--- src/lib.rt:213:1
 pub returns : goal.returns
-returns c = ?
+returns c = le_written c.args.s.now c.args.at c.args.n c.requires

@@ -1,13 +1,12 @@
-use Rattle.std.proofs.Common.{◌-◌, ◌≡◌, ◌++◌, ◌+◌, ◌/◌, ◌^◌, ◌≤◌, ◌<◌, length, get_or, take, drop, ℕ, ◌*◌}
-use Rattle.standards.specs.Strings.{◌xor◌, zeros, num, to_bytes}
-use Rattle.standards.specs.Rfc7253 as rfc
-use Rattle.block.specs.Words.{le, le_bytes}
-use Rattle.block.specs.Halves.{block_of}
+use mathlib.Core.Path.{◌≡◌}
+use mathlib.Core.List.{◌++◌}
+use Prim.Native.Nat.{◌-◌, ◌^◌, ◌≤◌, ◌<◌}
+use Rattle.standards.specs.Strings.{to_bytes}
+use Rattle.block.specs.Words.{le_bytes}
 use Rattle.block.proofs.swapped.Given as goal
 
 abbrev pub invariant-loop-i : goal.invariant-loop-i
-invariant-loop-i l = ?
+invariant-loop-i l = (l.i ≤ 8) × (l.r < 256 ^ l.i) × (to_bytes (8 - l.i) l.rest ++ le_bytes l.i l.r ≡ to_bytes 8 l.n)
 
--- proposed from the loop's first test
 abbrev pub decreases-loop-i : goal.decreases-loop-i
 decreases-loop-i l = 8 - l.i

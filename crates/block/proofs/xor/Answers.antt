@@ -1,10 +1,23 @@
-use Rattle.std.proofs.Common.{rules, ◌≡◌, ◌++◌, ◌+◌, ◌/◌, ◌^◌, ◌≤◌, ◌<◌, length, get_or, take, drop, ℕ, ◌-◌, ◌*◌, ◌%◌, Bool, true, false, nat_eq, nat_lt, List, [], ◌∷◌, slice_set, bit_and, bit_or, Fits, w8, w32, w64, Bor, MutBor}
-use Rattle.standards.specs.Strings.{◌xor◌, zeros, num, to_bytes}
-use Rattle.standards.specs.Rfc7253 as rfc
-use Rattle.block.specs.Words.{le, le_bytes}
-use Rattle.block.specs.Halves.{block_of}
+-- `block::xor` meets its contract: its literal has the xor of the two blocks' bytes at each place. Each index is below 16. Assumes nothing.
+use mathlib.Core.Path.{◌≡◌, sym, ◌∙◌}
+use mathlib.Core.List.{List}
+use Prim.Native.Nat.{ℕ}
+use native.Mathlib.Omega.{arith}
+use lib.ListN.{length, get_or}
+use Rattle.standards.specs.Strings.{◌⊕◌, ◌xor◌, tabulate}
+use Rattle.block.proofs.Literals.{is_literal}
+use Rattle.block.proofs.StringLaws.{xor_length, xor_at}
+use Rattle.block.proofs.Owned.{owned_length}
 use Rattle.block.proofs.xor.Goals as goal
 
--- src/lib.rt:16:1
+bytewise : (a b : List ℕ) → length a ≡ 16 → length b ≡ 16 → tabulate 16 (λ i. get_or a i 0 ⊕ get_or b i 0) ≡ a xor b
+-- `block::xor` meets its contract: its literal has the xor of the two blocks' bytes at each place. Each index is below 16. Assumes nothing.
+bytewise a b ha hb =
+    sym
+    (is_literal 16 (λ i. get_or a i 0 ⊕ get_or b i 0) (a xor b) (xor_length a b ∙ ha)
+    (λ i h. xor_at a b i (omega arith) (omega arith)))
+
 pub returns : goal.returns
-returns c = ?
+unfolding ◌⊕◌
+returns c =
+    bytewise c.args.a c.args.b (owned_length 16 c.args.a _ c.well_formed.0) (owned_length 16 c.args.b _ c.well_formed.1.0)
