@@ -67,8 +67,8 @@ key_turn nk key i w w' v h k e q p =
     p ∙ ap₂ ◌++◌ e (q ∙ sym (next_take nk w i h k) ∙ ap₂ (next_word nk) e n) ∙ grown nk key (i - nk) ∙ ap (schedule nk key) s
 
 -- ---- the key is copied
-pub key_copied : (nk : ℕ) (key w rest : List ℕ) → length key ≡ 4 * nk → w ≡ take (length key) key ++ rest → take (4 * nk) w ≡ schedule nk key (nk - nk)
+pub key_copied : (nk n : ℕ) (key w rest : List ℕ) → length key ≡ 4 * nk → 4 * nk ≤ n → w ≡ take n key ++ rest → take (4 * nk) w ≡ schedule nk key (nk - nk)
 unfolding schedule
-key_copied nk key w rest e h =
+key_copied nk n key w rest e r h =
     let z : nk - nk ≡ 0 = omega arith in
-    rw z (ap (take (4 * nk)) (h ∙ ap (λ (x : List ℕ). x ++ rest) (take_all (length key) key (omega arith))) ∙ take_at key rest (4 * nk) e)
+    rw z (ap (take (4 * nk)) (h ∙ ap (λ (x : List ℕ). x ++ rest) (take_all n key (omega arith))) ∙ take_at key rest (4 * nk) e)
