@@ -1,0 +1,54 @@
+-- `tags_equal` meets its contract. The loop's invariant: the difference is 0 where the first i bytes are the same.
+-- Assumes nothing.
+use mathlib.Core.Path.{◌≡◌, refl, ap, ◌∙◌}
+use mathlib.Core.List.{List}
+use Prim.Native.Nat.{ℕ, ◌-◌, ◌≤◌}
+use native.Mathlib.Omega.{arith}
+use borrow.Author.Rules.{rules}
+use lib.Dec.{eqb}
+use lib.ListN.{length, take}
+use lib.Seq.{take-length}
+use Rattle.standards.specs.Strings.{◌⊕◌}
+use Rattle.standards.specs.Rfc7253.{same}
+use Rattle.ocb_walk.proofs.TagLaws.{same_turn}
+use Rattle.ocb_walk.proofs.tag.tags_equal.Goals as goal
+
+pub loop-i-init : goal.loop-i-init
+unfolding same
+loop-i-init c = (search rules, refl, search rules, search rules, refl)
+
+pub loop-i-preserved : goal.loop-i-preserved
+unfolding ◌⊕◌
+loop-i-preserved c =
+    let l = c.loop-i in
+    (
+      omega arith,
+      refl,
+      l.invariant.2,
+      l.invariant.3,
+      same_turn c.args.computed c.args.given.now l.i l.difference (omega arith) (omega arith) l.invariant.4,
+    )
+
+pub returns : goal.returns
+returns c =
+    let l = c.loop-i in
+    let k : List ℕ = c.args.computed in
+    let t : List ℕ = c.args.given.now in
+    let e : l.i ≡ length t = omega arith in
+    l.invariant.4 ∙ ap (λ (n : ℕ). same (take n k) (take n t)) e ∙ ap (same (take (length t) k)) (take-length t)
+
+-- OLD Need-array-read-difference
+-- array-read-difference : tie.Need-array-read-difference invariant-loop decreases-loop
+-- array-read-difference c = search rules
+
+-- OLD Need-shared-slice-read-difference
+-- shared-slice-read-difference : tie.Need-shared-slice-read-difference invariant-loop decreases-loop
+-- shared-slice-read-difference c = search rules
+
+-- OLD Need-overflow-add-i
+-- add-i : tie.Need-overflow-add-i invariant-loop decreases-loop
+-- add-i c = search rules
+
+-- OLD Need-loop-smaller
+-- loop-less : tie.Need-loop-smaller invariant-loop decreases-loop
+-- loop-less c = search rules
