@@ -1,6 +1,6 @@
 -- `hash` meets its contract. The loop's invariant: the run is that of the first i blocks. Assumes nothing.
 use mathlib.Core.Path.{◌≡◌, refl, ap, ◌∙◌}
-use Prim.Native.Nat.{◌+◌, ◌-◌, ◌*◌, ◌/◌, ◌≤◌}
+use Prim.Native.Nat.{◌+◌, ◌-◌, ◌*◌, ◌/◌}
 use native.Mathlib.Omega.{arith}
 use borrow.Author.Rules.{rules}
 use lib.ListN.{length}
@@ -24,32 +24,24 @@ loop-i-preserved c =
     let K = lent_key c.args.rk.now c.args.table.now c.args.v in
     (omega arith, hashed_more K c.args.ad.now l.i l.invariant.1 c.load.ensures c.hash_one-r.ensures)
 
-pub returns : goal.returns
-returns c =
+pub hash_one-r-requires : goal.hash_one-r-requires
+hash_one-r-requires c =
+    let l = c.loop-i in
+    let K = lent_key c.args.rk.now c.args.table.now c.args.v in
+    (c.requires.0, fits_reach c.requires.1 (l.r.done + 1) (omega arith) (omega (arith, hashed_done K c.args.ad.now l.i l.invariant.1)), c.requires.2)
+
+pub returns-then-b-len : goal.returns-then-b-len
+returns-then-b-len c =
     let l = c.loop-i in
     let K = lent_key c.args.rk.now c.args.table.now c.args.v in
     let A = c.args.ad.now in
     let all : l.i ≡ length A / 16 = omega arith in
     hash_part K A (l.invariant.1 ∙ ap (hashed K A) all) (length A - length A / 16 * 16) refl c.hash_last.ensures
 
-pub hash_one-r-requires : goal.hash_one-r-requires
-hash_one-r-requires c = ?
-
-pub returns-then-b-len : goal.returns-then-b-len
-returns-then-b-len c = ?
-
--- OLD Need-hash-one-requires
--- hash-one-requires : tie.Need-hash-one-requires invariant-loop decreases-loop
--- hash-one-requires c κs =
---     let l = c.loop-i in
---     let K = lent_key c.args.rk.now c.args.table.now c.args.v in
---     (c.requires.0, fits_reach c.requires.1 (l.r.done + 1) (omega arith) (omega (arith, hashed_done K c.args.ad.now l.i l.invariant.1)), c.requires.2)
-
--- OLD Need-returns-2
--- returns-2 : tie.Need-returns-2 invariant-loop decreases-loop
--- returns-2 c =
---     let l = c.loop-i in
---     let K = lent_key c.args.rk.now c.args.table.now c.args.v in
---     let A = c.args.ad.now in
---     let all : l.i ≡ length A / 16 = omega arith in
---     hash_whole K A (l.invariant.1 ∙ ap (hashed K A) all) (omega arith)
+pub returns : goal.returns
+returns c =
+    let l = c.loop-i in
+    let K = lent_key c.args.rk.now c.args.table.now c.args.v in
+    let A = c.args.ad.now in
+    let all : l.i ≡ length A / 16 = omega arith in
+    hash_whole K A (l.invariant.1 ∙ ap (hashed K A) all) (omega arith)

@@ -2,10 +2,9 @@
 -- Assumes nothing.
 use mathlib.Core.Path.{◌≡◌, refl, ap, ◌∙◌}
 use mathlib.Core.List.{List}
-use Prim.Native.Nat.{ℕ, ◌-◌, ◌≤◌}
+use Prim.Native.Nat.{ℕ}
 use native.Mathlib.Omega.{arith}
 use borrow.Author.Rules.{rules}
-use lib.Dec.{eqb}
 use lib.ListN.{length, take}
 use lib.Seq.{take-length}
 use Rattle.standards.specs.Strings.{◌⊕◌}
@@ -20,8 +19,7 @@ loop-i-init c = (search rules, refl, search rules, search rules, refl)
 pub loop-i-preserved : goal.loop-i-preserved
 unfolding ◌⊕◌
 loop-i-preserved c =
-    let l = c.loop-i in
-    (
+    let l = c.loop-i in (
       omega arith,
       refl,
       l.invariant.2,
@@ -36,19 +34,3 @@ returns c =
     let t : List ℕ = c.args.given.now in
     let e : l.i ≡ length t = omega arith in
     l.invariant.4 ∙ ap (λ (n : ℕ). same (take n k) (take n t)) e ∙ ap (same (take (length t) k)) (take-length t)
-
--- OLD Need-array-read-difference
--- array-read-difference : tie.Need-array-read-difference invariant-loop decreases-loop
--- array-read-difference c = search rules
-
--- OLD Need-shared-slice-read-difference
--- shared-slice-read-difference : tie.Need-shared-slice-read-difference invariant-loop decreases-loop
--- shared-slice-read-difference c = search rules
-
--- OLD Need-overflow-add-i
--- add-i : tie.Need-overflow-add-i invariant-loop decreases-loop
--- add-i c = search rules
-
--- OLD Need-loop-smaller
--- loop-less : tie.Need-loop-smaller invariant-loop decreases-loop
--- loop-less c = search rules

@@ -1,14 +1,8 @@
-use mathlib.Core.Path.{◌≡◌, refl, ap, ◌∙◌}
-use mathlib.Core.List.{List}
-use Prim.Native.Nat.{ℕ, ◌-◌, ◌≤◌}
-use native.Mathlib.Omega.{arith}
-use borrow.Author.Rules.{rules}
+use mathlib.Core.Path.{◌≡◌}
+use Prim.Native.Nat.{◌-◌, ◌≤◌}
 use lib.Dec.{eqb}
 use lib.ListN.{length, take}
-use lib.Seq.{take-length}
-use Rattle.standards.specs.Strings.{◌⊕◌}
 use Rattle.standards.specs.Rfc7253.{same}
-use Rattle.ocb_walk.proofs.TagLaws.{same_turn}
 use Rattle.ocb_walk.proofs.tag.tags_equal.Given as goal
 
 abbrev pub invariant-loop-i : goal.invariant-loop-i

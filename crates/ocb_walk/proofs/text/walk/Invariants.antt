@@ -1,9 +1,7 @@
-use Prim.Native.Nat.{◌+◌, ◌-◌, ◌*◌, ◌/◌}
-use native.Mathlib.Omega.{arith}
-use borrow.Author.Rules.{rules}
+use Prim.Native.Nat.{◌-◌, ◌/◌}
 use lib.ListN.{length}
 use Rattle.ocb_variables.specs.Held.{lent_key}
-use Rattle.ocb_walk.proofs.WalkLaws.{Going, done_none, done_one, done_two, done_length, lent_blocks, run_done, walked}
+use Rattle.ocb_walk.proofs.WalkLaws.{Going}
 use Rattle.ocb_walk.proofs.text.walk.Given as goal
 
 abbrev pub invariant-loop-i : goal.invariant-loop-i
