@@ -1,7 +1,7 @@
 -- `lines::put_hex` meets its contract. The loop's invariant: the first `i` bytes of `s` stand in hex over `out` from place `at` on. Assumes nothing.
 use mathlib.Core.Path.{◌≡◌, refl, ap, ◌∙◌}
 use mathlib.Core.List.{List}
-use Prim.Native.Nat.{ℕ, ◌-◌, ◌≤◌}
+use Prim.Native.Nat.{ℕ}
 use native.Mathlib.Omega.{arith}
 use borrow.Author.Rules.{rules}
 use lib.ListN.{length, take, length-set}
@@ -33,21 +33,3 @@ returns c =
       next-is = omega (arith, hex_length S);
       left = l.invariant.2 ∙ ap (λ (x : List ℕ). over a.out.now a.at (hex x)) (ap (λ (k : ℕ). take k S) e ∙ take-length S);
     }
-
-pub overflow_mul-result : goal.overflow_mul-result
-overflow_mul-result c = ?
-
-pub overflow_add-result : goal.overflow_add-result
-overflow_add-result c = ?
-
--- OLD Need-glyph-requires
--- glyph-requires : tie.Need-glyph-requires invariant-loop decreases-loop
--- glyph-requires c κs = omega (arith, c.shared_slice_known2.given c.loop-i.i)
-
--- OLD Need-slice-write-out-2
--- slice-write-out-2 : tie.Need-slice-write-out-2 invariant-loop decreases-loop
--- slice-write-out-2 c = simp length-set (omega arith)
-
--- OLD Need-same-length
--- same_length : tie.Need-same-length invariant-loop decreases-loop
--- same_length c = c.loop-i.invariant.1
