@@ -1,5 +1,4 @@
 pub mod Flaws
-pub mod Worked
 pub mod Placed
 pub mod Laid
 pub mod Answered

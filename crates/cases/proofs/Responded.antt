@@ -10,11 +10,10 @@ use borrow.Author.Tests.{le-leb, lt-leb}
 use lib.ListN.{length, take, drop, length-append, length-drop, length-take, length-replicate}
 use Rattle.standards.specs.Strings.{zeros}
 use lib.Seq.{take_at, length-take-le}
-use Rattle.io.specs.Counts.{IsPrefixLen}
 use Rattle.cases.specs.Case.{word, lengths, malformed, bodies, Case, Decoded, bad, good, decode, outcome}
 use Rattle.lines.specs.Text.{lines, Puts}
 use Rattle.cases.specs.Output.{bad_line, output}
-use Rattle.cases.specs.Replies.{front, room, laid, result, Left, written, Responds}
+use Rattle.cases.specs.Replies.{front, room, laid, result_of, Left, written, Responds}
 use Rattle.cases.specs.declared.Reply.{Reply}
 use Rattle.cases.specs.declared.Reply.TheVariants.{Bad, NoRoom, Answered}
 use Rattle.cases.proofs.Placed.{formed}
@@ -53,8 +52,8 @@ record Gave (d : Decoded) (n k t g : ℕ) (text tag text' tag' : List ℕ) : Typ
   pub tag_left : tag' ≡ front (outcome case).tag (length case.tag) tag
 
 module _ (text tag : List ℕ) {text' tag' : List ℕ} where
-  bad_reply : (d : Decoded) → Left (result d text tag) Bad text' tag' → d ≡ bad
-  unfolding result
+  bad_reply : (d : Decoded) → Left (result_of d text tag) Bad text' tag' → d ≡ bad
+  unfolding result_of
   bad_reply bad L = refl
   bad_reply (good c) L = go (room c text tag) L.reply
     where
@@ -62,8 +61,8 @@ module _ (text tag : List ℕ) {text' tag' : List ℕ} where
       go true e = absurd (let z : ◌≡◌ {A = ℕ} 0 1 = cc in omega arith)
       go false e = absurd (let z : ◌≡◌ {A = ℕ} 0 1 = cc in omega arith)
 
-  no_room_reply : (d : Decoded) → ((c : Case) → d ≡ good c → room c text tag ≡ true) → Left (result d text tag) NoRoom text' tag' → ⊥
-  unfolding result
+  no_room_reply : (d : Decoded) → ((c : Case) → d ≡ good c → room c text tag ≡ true) → Left (result_of d text tag) NoRoom text' tag' → ⊥
+  unfolding result_of
   no_room_reply bad roomy L = let e = L.reply in let z : ◌≡◌ {A = ℕ} 0 1 = cc in omega arith
   no_room_reply (good c) roomy L = go (room c text tag) (roomy c refl) L.reply
     where
@@ -71,8 +70,8 @@ module _ (text tag : List ℕ) {text' tag' : List ℕ} where
       go true h e = let z : ◌≡◌ {A = ℕ} 0 1 = cc in omega arith
       go false h e = let z : ◌≡◌ {A = ℕ} 0 1 = cc in omega arith
 
-  answer_reply : (d : Decoded) {n k t g : ℕ} → Left (result d text tag) (Answered n k t g) text' tag' → Gave d n k t g text tag text' tag'
-  unfolding result
+  answer_reply : (d : Decoded) {n k t g : ℕ} → Left (result_of d text tag) (Answered n k t g) text' tag' → Gave d n k t g text tag text' tag'
+  unfolding result_of
   answer_reply bad L = let e = L.reply in absurd (let z : ◌≡◌ {A = ℕ} 0 1 = cc in omega arith)
   answer_reply (good c) {n} {k} {t} {g} L = go (room c text tag) L
     where
@@ -112,9 +111,9 @@ blank : length (zeros 8192) ≡ 8192
 blank = length-replicate {A = ℕ} 8192 0
 
 -- answer, with blank buffers, replied x to the case S
-module _ (S : List ℕ) {x : Reply} {text' tag' : List ℕ} (left : Left (result (decode S) (zeros 8192) (zeros 8192)) x text' tag') where
-  replied : {y : Reply} → x ≡ y → Left (result (decode S) (zeros 8192) (zeros 8192)) y text' tag'
-  replied e = subst (λ (r : Reply). Left (result (decode S) (zeros 8192) (zeros 8192)) r text' tag') e left
+module _ (S : List ℕ) {x : Reply} {text' tag' : List ℕ} (left : Left (result_of (decode S) (zeros 8192) (zeros 8192)) x text' tag') where
+  replied : {y : Reply} → x ≡ y → Left (result_of (decode S) (zeros 8192) (zeros 8192)) y text' tag'
+  replied e = subst (λ (r : Reply). Left (result_of (decode S) (zeros 8192) (zeros 8192)) r text' tag') e left
 
   pub told_bad : x ≡ Bad → decode S ≡ bad
   told_bad e = bad_reply (zeros 8192) (zeros 8192) (decode S) (replied e)
@@ -156,16 +155,13 @@ module _ (S : List ℕ) {x : Reply} {text' tag' : List ℕ} (left : Left (result
 
 -- ---- what respond leaves
 
-pub nothing : (d : Decoded) (out : List ℕ) → length out < 33000 → (Responds d out 0 out) × IsPrefixLen 0 out
+pub nothing : (d : Decoded) (out : List ℕ) → length out < 33000 → Responds d out 0 out
 unfolding written
-nothing d out h =
-    let e = lt-leb 33000 (length out) h in
-    (record { count = rw e; left = rw e }, (omega arith, refl))
+nothing d out h = let e = lt-leb 33000 (length out) h in record { count = rw e; left = rw e }
 
-pub responds : (d : Decoded) (out : List ℕ) {W out' : List ℕ} {r : ℕ} → 33000 ≤ length out → W ≡ output d → Puts out 0 W r out' → (Responds d out r out') × IsPrefixLen r out'
+pub responds : (d : Decoded) (out : List ℕ) {W out' : List ℕ} {r : ℕ} → 33000 ≤ length out → W ≡ output d → Puts out 0 W r out' → Responds d out r out'
 unfolding written
 responds d out {W} {out'} {r} h e p =
     let l = le-leb 33000 (length out) h in
     let put : Puts out 0 (output d) r out' = subst (λ (x : List ℕ). Puts out 0 x r out') e p in
-    let inside : r ≤ length out' = omega (arith, p.next-is, ap length p.left ∙ length-append W (drop (0 + length W) out)) in
-    (record { count = rw l (omega (arith, put.next-is)); left = rw l put.left }, (inside, sym (length-take-le r out' inside)))
+    record { count = rw l (omega (arith, put.next-is)); left = rw l put.left }

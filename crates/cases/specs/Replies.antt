@@ -36,9 +36,9 @@ laid c text tag = record {
   tag = front (outcome c).tag (length c.tag) tag;
 }
 
-unfoldable pub result : Decoded → List ℕ → List ℕ → Result
-result bad text tag = record { reply = Bad; text = text; tag = tag }
-result (good c) text tag = cond (room c text tag) (laid c text tag) (record { reply = NoRoom; text = text; tag = tag })
+unfoldable pub result_of : Decoded → List ℕ → List ℕ → Result
+result_of bad text tag = record { reply = Bad; text = text; tag = tag }
+result_of (good c) text tag = cond (room c text tag) (laid c text tag) (record { reply = NoRoom; text = text; tag = tag })
 
 -- the reply r, and the buffers that are left, are the result's
 pub record Left (x : Result) (r : Reply) (text tag : List ℕ) : Type 0 where

@@ -9,7 +9,7 @@ ghost use Rattle.io.specs.Counts.{IsPrefixLen};
 ghost use Rattle.ocb.specs.Answers.{Leaves, set_up};
 ghost use Rattle.cases.specs.Case.{word, after, decode};
 ghost use Rattle.cases.specs.Places.{Within, Room, case_at};
-ghost use Rattle.cases.specs.Replies.{Lays, Left, result, Responds};
+ghost use Rattle.cases.specs.Replies.{Lays, Left, result_of, Responds};
 
 use ocb::Answer;
 use table::{Found, Table};
@@ -29,7 +29,8 @@ pub enum Reply {
 
 // The number that four bytes of s from place at on are, the lowest first; 0 where there are not so many.
 pub fn number_at(s: &[u8], at: usize) -> usize
-    ensures* { λ r. ⌜ (at + 4 ≤ length s.now → r ≡ word s.now at) × (length s.now < at + 4 → r ≡ 0) ⌝ }
+    ensures four { at + 4 ≤ length s.now → result ≡ word s.now at }
+    ensures fewer { length s.now < at + 4 → result ≡ 0 }
 {
     if s.len() < 4 {
         return 0;
@@ -50,8 +51,7 @@ pub fn work(
     text: &mut [u8],
     tag: &mut [u8],
 ) -> Answer
-    ensures* { λ r. ⌜ Leaves (after (set_up key.now m) opens nonce.now ad.now text.old tag.old) r
-        text.new tag.new ⌝ }
+    ensures { Leaves (after (set_up key.now m) opens nonce.now ad.now text.old tag.old) result text.new tag.new }
 {
     let u = ocb::set_up(key, m);
     let number = u.number;
@@ -71,7 +71,7 @@ pub fn work(
 // Answers a case whose bodies are where t says, with its text and its tag at the front of the two lent buffers, which have room.
 fn answer_at(case: &[u8], t: Table, text: &mut [u8], tag: &mut [u8]) -> Answer
     requires { (Within case.now t) × (Room t text.old tag.old) }
-    ensures* { λ r. ⌜ Lays (case_at case.now t) r text.old tag.old text.new tag.new ⌝ }
+    ensures { Lays (case_at case.now t) result text.old tag.old text.new tag.new }
 {
     let nonce_at = t.nonce;
     let ad_at = t.ad;
@@ -95,7 +95,7 @@ fn answer_at(case: &[u8], t: Table, text: &mut [u8], tag: &mut [u8]) -> Answer
 
 // Answers a case, with its text and its tag at the front of the two lent buffers.
 pub fn answer(case: &[u8], text: &mut [u8], tag: &mut [u8]) -> Reply
-    ensures* { λ r. ⌜ Left (result (decode case.now) text.old tag.old) r text.new tag.new ⌝ }
+    ensures { Left (result_of (decode case.now) text.old tag.old) result text.new tag.new }
 {
     let Found::Good(t) = table::find(case) else {
         return Reply::Bad;
@@ -120,8 +120,8 @@ pub fn answer(case: &[u8], text: &mut [u8], tag: &mut [u8]) -> Reply
 // Writes what the test program writes for a case at the front of out, and gives its length. An out of fewer than 33,000 bytes, which may be too few,
 // is left alone.
 pub fn respond(case: &[u8], out: &mut [u8]) -> usize
-    ensures* fact { λ r. ⌜ Responds (decode case.now) out.old r out.new ⌝ }
-    ensures* fact_2 { λ r. ⌜ IsPrefixLen r out.new ⌝ }
+    ensures responds { Responds (decode case.now) out.old result out.new }
+    ensures prefix { IsPrefixLen result out.new }
 {
     if out.len() < 33000 {
         return 0;

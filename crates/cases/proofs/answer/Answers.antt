@@ -1,0 +1,28 @@
+-- `cases::answer` meets its contract: what table::find found is bad or places the bodies, and the buffers have room or not. Assumes nothing.
+use Rattle.cases.proofs.Placed.{found_good}
+use Rattle.cases.proofs.Answered.{within, answered_bad, no_text_room, no_tag_room, answered}
+use Rattle.cases.proofs.answer.Goals as goal
+
+pub returns-in_default : goal.returns-in_default
+returns-in_default c = answered_bad c.args.case.now c.args.text.now c.args.tag.now c.in_default.ensures
+
+pub overflow_sub-texts : goal.overflow_sub-texts
+overflow_sub-texts c = (within (found_good c.find.ensures c.in-Good.is)).tag_place
+
+pub overflow_sub-tags : goal.overflow_sub-tags
+overflow_sub-tags c = (within (found_good c.find.ensures c.in-Good.is)).end_place
+
+pub returns-then-text-texts : goal.returns-then-text-texts
+returns-then-text-texts c = no_text_room (found_good c.find.ensures c.in-Good.is) c.args.text.now c.args.tag.now c.if-text-texts.true
+
+pub returns-then-tag-tags : goal.returns-then-tag-tags
+returns-then-tag-tags c = no_tag_room (found_good c.find.ensures c.in-Good.is) c.args.text.now c.args.tag.now c.if-tag-tags.true
+
+pub answer_at-a-requires : goal.answer_at-a-requires
+answer_at-a-requires c =
+    (within (found_good c.find.ensures c.in-Good.is), record { text_room = c.if-text-texts.false; tag_room = c.if-tag-tags.false })
+
+pub returns : goal.returns
+returns c =
+    answered (found_good c.find.ensures c.in-Good.is) c.args.text.now c.args.tag.now
+    (record { text_room = c.if-text-texts.false; tag_room = c.if-tag-tags.false }) c.answer_at-a.ensures
