@@ -1,0 +1,26 @@
+-- `seal` meets its contract: the sizes are refused as the list says, or the inner function does the work. Assumes nothing.
+use lib.ListN.{get_or}
+use mir.Syntax.{w8}
+use mir.Val.{Fits}
+use Rattle.standards.specs.Strings.{Bytes}
+use borrow.Author.Rules.{rules}
+use Rattle.ocb.proofs.Outcomes.{seal_refused_lem, sizes, seal_done}
+use Rattle.ocb.proofs.seal.Goals as goal
+
+pub returns-then-number-ne0 : goal.returns-then-number-ne0
+returns-then-number-ne0 c =
+    let a = c.args in
+    seal_refused_lem a.s a.nonce.now a.ad.now a.text.now a.tag.now c.refuse-number.ensures c.if-number-ne0.true
+
+pub encrypt-requires : goal.encrypt-requires
+encrypt-requires c =
+    let a = c.args in
+    sizes a.s a.nonce.now a.ad.now a.text.now a.tag.now c.refuse-number.ensures c.if-number-ne0.false
+
+pub returns : goal.returns
+returns c =
+    let a = c.args in
+    -- a state's round keys are bytes, by their type
+    let keys : Bytes a.s.round_keys = λ i. (let f : Fits w8 (get_or a.s.round_keys i 0) = search rules in f.fits) in
+    seal_done a.s a.nonce.now a.ad.now a.text.now a.tag.now c.refuse-number.ensures c.if-number-ne0.false keys
+    (λ i. (c.type_inv.nonce i).fits) c.calls-calls.ensures c.encrypt.ensures c.encrypt.auto.text
