@@ -26,10 +26,10 @@ pub record Sizes (s : State) : Type 0 where
 -- ---- reading
 
 -- what is copied over the whole of an array is what the array holds
-pub copied_whole : {x : List ℕ} (S Z : List ℕ) → length S ≡ length Z → x ≡ take (length S) S ++ drop (length S) Z → x ≡ S
+pub copied_whole : {x : List ℕ} (S Z : List ℕ) → length S ≡ length Z → x ≡ take (length Z) S ++ drop (length S) Z → x ≡ S
 copied_whole S Z h e =
     e
-    ∙ ap₂ (λ (a b : List ℕ). a ++ b) (take_all (length S) S (omega arith)) (drop_of_length-le Z {i = length S} (omega arith))
+    ∙ ap₂ (λ (a b : List ℕ). a ++ b) (take_all (length Z) S (omega arith)) (drop_of_length-le Z {i = length S} (omega arith))
     ∙ append-nil S
 
 -- the fields, each read where it lies
