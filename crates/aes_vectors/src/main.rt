@@ -6,8 +6,8 @@ mod vectors; // vectors.rt: the values
 
 ghost use Rattle.sizes.specs.Sizes.{Rounds};
 
-use libc::STDOUT_FILENO;
 use sizes::{ROUND_KEY_BYTES, ROUNDS_128, RoundKeys};
+use std::io;
 use vectors::{Case, Four, Key, Schedule};
 
 // Of the longest schedule.
@@ -80,19 +80,14 @@ fn count(good: &[bool]) -> Tally {
     Tally { right, wrong }
 }
 
-fn report(name: &[u8], good: &[bool]) {
+fn report(rt: &impl Print, name: &str, good: &[bool]) -> io::Result<()> {
     let t = count(good);
-    io::write_all(STDOUT_FILENO, name);
-    io::write_all(STDOUT_FILENO, b": ");
-    io::print_decimal(STDOUT_FILENO, t.right as u64);
-    io::write_all(STDOUT_FILENO, b" of ");
-    io::print_decimal(STDOUT_FILENO, good.len() as u64);
-    io::write_all(STDOUT_FILENO, b" agree");
+    let all = good.len();
+    print!(rt; "{name}: {} of {all} agree", t.right)?;
     if t.wrong != 0 {
-        io::write_all(STDOUT_FILENO, b"; the first that does not is number ");
-        io::print_decimal(STDOUT_FILENO, t.wrong as u64);
+        print!(rt; "; the first that does not is number {}", t.wrong)?;
     }
-    io::write_all(STDOUT_FILENO, b"\n");
+    println!(rt)
 }
 
 // For each word, whether it is as published, or zero behind a shorter schedule.
@@ -108,44 +103,47 @@ fn same_words(made: RoundKeys, published: RoundKeys) -> [bool; WORDS] {
     good
 }
 
-fn words(name: &[u8], published: Schedule) {
+fn words(rt: &impl Print, name: &str, published: Schedule) -> io::Result<()> {
     let expected = published.words;
     let expanded = expand(published.key);
     let keys = expanded.keys;
     let good = same_words(keys, expected);
-    report(name, &good);
+    report(rt, name, &good)
 }
 
-fn both_ways(there: &[u8], back: &[u8], f: Four) {
+fn both_ways(rt: &impl Print, there: &str, back: &str, f: Four) -> io::Result<()> {
     let enciphered = [
         enciphers(f.first),
         enciphers(f.second),
         enciphers(f.third),
         enciphers(f.fourth),
     ];
-    report(there, &enciphered);
+    report(rt, there, &enciphered)?;
     let deciphered = [
         deciphers(f.first),
         deciphers(f.second),
         deciphers(f.third),
         deciphers(f.fourth),
     ];
-    report(back, &deciphered);
+    report(rt, back, &deciphered)
 }
 
-fn main() {
+fn main(rt: HostRuntime) -> io::Result<()> {
     words(
-        b"FIPS 197, A.1, words of the key schedule, and zeros behind",
+        &rt,
+        "FIPS 197, A.1, words of the key schedule, and zeros behind",
         vectors::fips_197_a_1(),
-    );
+    )?;
     words(
-        b"FIPS 197, A.2, words of the key schedule, and zeros behind",
+        &rt,
+        "FIPS 197, A.2, words of the key schedule, and zeros behind",
         vectors::fips_197_a_2(),
-    );
+    )?;
     words(
-        b"FIPS 197, A.3, words of the key schedule, and zeros behind",
+        &rt,
+        "FIPS 197, A.3, words of the key schedule, and zeros behind",
         vectors::fips_197_a_3(),
-    );
+    )?;
     let examples = Four {
         first: vectors::fips_197_b(),
         second: vectors::fips_197_c_1(),
@@ -153,23 +151,27 @@ fn main() {
         fourth: vectors::fips_197_c_3(),
     };
     both_ways(
-        b"FIPS 197, B and C.1 to C.3, enciphered",
-        b"FIPS 197, B and C.1 to C.3, deciphered",
+        &rt,
+        "FIPS 197, B and C.1 to C.3, enciphered",
+        "FIPS 197, B and C.1 to C.3, deciphered",
         examples,
-    );
+    )?;
     both_ways(
-        b"NIST SP 800-38A, F.1.1, enciphered",
-        b"NIST SP 800-38A, F.1.2, deciphered",
+        &rt,
+        "NIST SP 800-38A, F.1.1, enciphered",
+        "NIST SP 800-38A, F.1.2, deciphered",
         vectors::sp_800_38a_128(),
-    );
+    )?;
     both_ways(
-        b"NIST SP 800-38A, F.1.3, enciphered",
-        b"NIST SP 800-38A, F.1.4, deciphered",
+        &rt,
+        "NIST SP 800-38A, F.1.3, enciphered",
+        "NIST SP 800-38A, F.1.4, deciphered",
         vectors::sp_800_38a_192(),
-    );
+    )?;
     both_ways(
-        b"NIST SP 800-38A, F.1.5, enciphered",
-        b"NIST SP 800-38A, F.1.6, deciphered",
+        &rt,
+        "NIST SP 800-38A, F.1.5, enciphered",
+        "NIST SP 800-38A, F.1.6, deciphered",
         vectors::sp_800_38a_256(),
-    );
+    )
 }

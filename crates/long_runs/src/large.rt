@@ -5,6 +5,7 @@ ghost use Rattle.std.specs.Prelude.{◌≡◌, ◌≤◌, length};
 use crate::say;
 use ocb::Answer;
 use ocb_variables::State;
+use std::io;
 
 // Byte i becomes (7 * i + i / 256 + first) mod 256.
 fn fill(s: &mut [u8], first: usize)
@@ -42,38 +43,45 @@ fn sums(s: &[u8]) -> Pair {
     }
 }
 
-fn tell(what: &[u8], a: Answer, text: &[u8], tag: &[u8]) {
+fn tell(rt: &impl Print, what: &str, a: Answer, text: &[u8], tag: &[u8]) -> io::Result<()> {
     let told = sums(text);
-    say::words(b"2^20 + 5 bytes, ");
-    say::words(what);
-    say::words(b": answer ");
-    say::number(a.number);
-    say::words(b" calls ");
-    say::number(a.calls);
-    say::words(b", tag ");
-    say::hex(tag);
-    say::words(b", sums of the text ");
-    say::hex_number(told.first);
-    say::words(b" ");
-    say::hex_number(told.second);
-    say::words(b"\n");
+    say::words(rt, "2^20 + 5 bytes, ")?;
+    say::words(rt, what)?;
+    say::words(rt, ": answer ")?;
+    say::number(rt, a.number)?;
+    say::words(rt, " calls ")?;
+    say::number(rt, a.calls)?;
+    say::words(rt, ", tag ")?;
+    say::hex(rt, tag)?;
+    say::words(rt, ", sums of the text ")?;
+    say::hex_number(rt, told.first)?;
+    say::words(rt, " ")?;
+    say::hex_number(rt, told.second)?;
+    say::words(rt, "\n")
 }
 
-fn open(what: &[u8], s: State, data: &[u8], text: &mut [u8], tag: &[u8]) {
+fn open(
+    rt: &impl Print,
+    what: &str,
+    s: State,
+    data: &[u8],
+    text: &mut [u8],
+    tag: &[u8],
+) -> io::Result<()> {
     let a = ocb::open(s, b"twelve bytes", data, text, tag);
-    tell(what, a, text, tag);
+    tell(rt, what, a, text, tag)
 }
 
 // Seals the text, opens it, and opens what is left with a wrong tag.
-fn seal_and_open(text: &mut [u8], data: &[u8]) {
+fn seal_and_open(rt: &impl Print, text: &mut [u8], data: &[u8]) -> io::Result<()> {
     let u = ocb::set_up(b"sixteen key byte", 17);
     let s = u.state;
     let mut tag = [0u8; 16];
     let a = ocb::seal(s, b"twelve bytes", data, text, &mut tag);
-    tell(b"sealed", a, text, &tag);
-    open(b"opened", s, data, text, &tag);
+    tell(rt, "sealed", a, text, &tag)?;
+    open(rt, "opened", s, data, text, &tag)?;
     tag[15] ^= 1;
-    open(b"opened with a wrong tag", s, data, text, &tag);
+    open(rt, "opened with a wrong tag", s, data, text, &tag)
 }
 
 // So many zeros.
@@ -83,10 +91,10 @@ fn zeros() -> [u8; 1048581]
     [0; 1048581]
 }
 
-pub fn run() {
+pub fn run(rt: &impl Print) -> io::Result<()> {
     let mut text = zeros();
     fill(&mut text, 0);
     let mut data = zeros();
     fill(&mut data, 100);
-    seal_and_open(&mut text, &data);
+    seal_and_open(rt, &mut text, &data)
 }

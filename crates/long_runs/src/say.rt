@@ -1,23 +1,22 @@
 // What the program writes to standard output.
-use libc::STDOUT_FILENO;
+use std::io;
 
-pub fn words(s: &[u8]) {
-    io::write_all(STDOUT_FILENO, s);
+pub fn words(rt: &impl Print, s: &str) -> io::Result<()> {
+    rt.print(s)
 }
 
-pub fn number(n: usize) {
-    io::print_decimal(STDOUT_FILENO, n as u64);
+pub fn number(rt: &impl Print, n: usize) -> io::Result<()> {
+    rt.print(n)
 }
 
-pub fn hex(s: &[u8]) {
-    let mut i = 0;
-    while i < s.len() {
-        io::print_hex(STDOUT_FILENO, s[i] as u64, 2);
-        i += 1;
+pub fn hex(rt: &impl Print, s: &[u8]) -> io::Result<()> {
+    for byte in s {
+        print!(rt; "{byte:02x}")?;
     }
+    Ok(())
 }
 
 // Eight digits and more.
-pub fn hex_number(n: u64) {
-    io::print_hex(STDOUT_FILENO, n, 8);
+pub fn hex_number(rt: &impl Print, n: u64) -> io::Result<()> {
+    print!(rt; "{n:08x}")
 }

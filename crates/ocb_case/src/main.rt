@@ -1,13 +1,17 @@
-// The test program: reads one case from standard input and writes what is said of it. The buffer holds more than the longest case has, so a case with
-// too many bytes is seen to have them.
+// The test program: reads one case from standard input and writes what is said of it. It reads more bytes than the longest case has, so a case with
+// too many is seen to have them.
 #![tactic(auto)]
 
-use libc::{STDIN_FILENO, STDOUT_FILENO};
+use std::io;
+use std::io::{Read, Write};
 
-fn main() {
-    let mut case = io::large_buffer();
-    let n = io::read_full(STDIN_FILENO, &mut case);
-    let mut out = io::large_buffer();
-    let k = cases::respond(&case[..n], &mut out);
-    io::write_all(STDOUT_FILENO, &out[..k]);
+// More than the longest case has.
+const ROOM: u64 = 65536;
+
+fn main(rt: HostRuntime) -> io::Result<()> {
+    let mut case = Vec::new(rt.alloc());
+    rt.stdin().take(ROOM).read_to_end(&mut case)?;
+    let mut out = [0u8; 65536];
+    let k = cases::respond(&case, &mut out);
+    rt.stdout().write_all(&out[..k])
 }

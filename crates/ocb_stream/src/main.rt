@@ -3,9 +3,10 @@
 #![tactic(auto)]
 
 ghost use Rattle.std.specs.Prelude.{◌≤◌};
+ghost use Rattle.std.specs.Io.{ReadsAtMost};
 ghost use Rattle.io.specs.Counts.{IsPrefixLen};
 
-use libc::{STDIN_FILENO, STDOUT_FILENO};
+use std::io::{Read, Result, Write};
 
 // The four bytes of a number, the lowest first.
 fn bytes(n: usize) -> [u8; 4] {
@@ -25,44 +26,69 @@ fn piece(n: usize, buffer: &[u8]) -> usize
     if n < buffer.len() { n } else { buffer.len() }
 }
 
+// Reads until buffer is full or the stream ends, and gives how many bytes it put at the front.
+fn read_full(from: &mut impl Read, buffer: &mut [u8]) -> Result<usize>
+    ensures { ReadsAtMost result buffer.new }
+{
+    let mut done = 0;
+    while done < buffer.len() {
+        let n = from.read(&mut buffer[done..])?;
+        if n == 0 {
+            break;
+        }
+        done += n;
+    }
+    Ok(done)
+}
+
 // Reads left bytes and drops them, by way of a buffer.
-fn skip(left: usize, buffer: &mut [u8]) {
+fn skip(from: &mut impl Read, left: usize, buffer: &mut [u8]) -> Result<()> {
     let mut left = left;
     while left > 0 {
         let n = piece(left, buffer);
-        let got = io::read_full(STDIN_FILENO, &mut buffer[..n]);
+        let got = read_full(from, &mut buffer[..n])?;
         if got == 0 {
-            return;
+            return Ok(());
         }
         left -= got;
     }
+    Ok(())
 }
 
 // Answers the next case, and says whether there was one. A case that is longer than the buffer is longer than any good one, so its front is answered.
-fn answer_next(case: &mut [u8], out: &mut [u8]) -> bool {
+fn answer_next(
+    from: &mut impl Read,
+    to: &mut impl Write,
+    case: &mut [u8],
+    out: &mut [u8],
+) -> Result<bool> {
     let mut head = [0u8; 4];
-    if io::read_full(STDIN_FILENO, &mut head) < 4 {
-        return false;
+    if read_full(from, &mut head)? < 4 {
+        return Ok(false);
     }
     let length = cases::number_at(&head, 0);
     let n = piece(length, case);
-    if io::read_full(STDIN_FILENO, &mut case[..n]) < n {
-        return false;
+    if read_full(from, &mut case[..n])? < n {
+        return Ok(false);
     }
     let k = cases::respond(&case[..n], out);
-    skip(length - n, case);
+    skip(from, length - n, case)?;
     let frame = bytes(k);
-    io::write_all(STDOUT_FILENO, &frame) && io::write_all(STDOUT_FILENO, &out[..k])
+    to.write_all(&frame)?;
+    to.write_all(&out[..k])?;
+    Ok(true)
 }
 
-// A proved loop has to end, and nothing says that a stream does. So the loop counts its turns down, from a number that no run uses up.
-fn main() {
-    let mut space = io::large_buffer();
-    let case: &mut [u8] = &mut space;
-    let mut room = io::large_buffer();
-    let out: &mut [u8] = &mut room;
-    let mut turns = u64::MAX;
-    while turns > 0 && answer_next(case, out) {
-        turns -= 1;
+// A proved loop has to end, and nothing says that a stream does. So the loop counts its turns, up to a number that no run reaches.
+fn main(rt: HostRuntime) -> Result<()> {
+    let mut case = [0u8; 65536];
+    let mut out = [0u8; 65536];
+    let mut from = rt.stdin();
+    let mut to = rt.stdout();
+    for _ in 0..u64::MAX {
+        if !answer_next(&mut from, &mut to, &mut case, &mut out)? {
+            break;
+        }
     }
+    Ok(())
 }

@@ -2,6 +2,8 @@
 // the form of a list.
 ghost use Rattle.io.specs.Counts.{IsPrefixLen};
 
+use std::io::Read;
+
 // How a list came out: whether it starts as a list, how many entries it says to have, how many of them agree, the first that does not, counted from 1, or 0,
 // and whether it has just those entries, each of good form.
 #[derive(Clone, Copy)]
@@ -39,19 +41,36 @@ enum Step {
     Cut,
 }
 
+// Reads until a buffer is full, the file ends or a read fails, and gives how many bytes it put at the front.
+fn read_full(from: &mut impl Read, buffer: &mut [u8]) -> usize
+    ensures { IsPrefixLen result buffer.new }
+{
+    let mut done = 0;
+    while done < buffer.len() {
+        let Ok(n) = from.read(&mut buffer[done..]) else {
+            break;
+        };
+        if n == 0 {
+            break;
+        }
+        done += n;
+    }
+    done
+}
+
 // The number in the next four bytes, the lowest first; 0 where there are not so many.
-fn number(fd: i32) -> usize {
+fn number(from: &mut impl Read) -> usize {
     let mut bytes = [0u8; 4];
-    let n = io::read_full(fd, &mut bytes);
+    let n = read_full(from, &mut bytes);
     cases::number_at(&bytes[..n], 0)
 }
 
 // Reads the next frame to the front of a buffer.
-fn read_frame(fd: i32, buffer: &mut [u8]) -> Frame
+fn read_frame(from: &mut impl Read, buffer: &mut [u8]) -> Frame
     ensures { IsPrefixLen result.size buffer.new }
 {
     let mut head = [0u8; 4];
-    if io::read_full(fd, &mut head) < 4 {
+    if read_full(from, &mut head) < 4 {
         return Frame {
             size: 0,
             whole: false,
@@ -64,7 +83,7 @@ fn read_frame(fd: i32, buffer: &mut [u8]) -> Frame
             whole: false,
         };
     }
-    let got = io::read_full(fd, &mut buffer[..n]);
+    let got = read_full(from, &mut buffer[..n]);
     Frame {
         size: got,
         whole: got == n,
@@ -76,14 +95,14 @@ fn compared(agrees: bool) -> Step {
 }
 
 // Runs the next entry of a list of cases.
-fn next_case(fd: i32) -> Step {
-    let mut case = io::large_buffer();
-    let cased = read_frame(fd, &mut case);
+fn next_case(from: &mut impl Read) -> Step {
+    let mut case = [0u8; 65536];
+    let cased = read_frame(from, &mut case);
     if !cased.whole {
         return Step::Cut;
     }
-    let mut answer = io::large_buffer();
-    let answered = read_frame(fd, &mut answer);
+    let mut answer = [0u8; 65536];
+    let answered = read_frame(from, &mut answer);
     if !answered.whole {
         return Step::Cut;
     }
@@ -93,17 +112,17 @@ fn next_case(fd: i32) -> Step {
 }
 
 // Runs the call that follows in an entry, under a state.
-fn call_under(fd: i32, state: &[u8], opens: bool) -> Step {
+fn call_under(from: &mut impl Read, state: &[u8], opens: bool) -> Step {
     let mut nonce = [0u8; 64];
-    let nonce_read = read_frame(fd, &mut nonce);
+    let nonce_read = read_frame(from, &mut nonce);
     let mut data = [0u8; 8192];
-    let data_read = read_frame(fd, &mut data);
+    let data_read = read_frame(from, &mut data);
     let mut text = [0u8; 8192];
-    let text_read = read_frame(fd, &mut text);
+    let text_read = read_frame(from, &mut text);
     let mut tag = [0u8; 64];
-    let tag_read = read_frame(fd, &mut tag);
+    let tag_read = read_frame(from, &mut tag);
     let mut answer = [0u8; 16384];
-    let answer_read = read_frame(fd, &mut answer);
+    let answer_read = read_frame(from, &mut answer);
     if !(nonce_read.whole
         & data_read.whole
         & text_read.whole
@@ -129,16 +148,16 @@ fn call_under(fd: i32, state: &[u8], opens: bool) -> Step {
 }
 
 // Runs the next entry of a list of calls under states.
-fn next_call(fd: i32) -> Step {
+fn next_call(from: &mut impl Read) -> Step {
     let mut way = [0u8; 1];
-    let way_read = read_frame(fd, &mut way);
+    let way_read = read_frame(from, &mut way);
     let mut state = [0u8; 728];
-    let state_read = read_frame(fd, &mut state);
+    let state_read = read_frame(from, &mut state);
     if !(way_read.whole & state_read.whole) {
         return Step::Cut;
     }
     let n = state_read.size;
-    call_under(fd, &state[..n], way[0] == 1)
+    call_under(from, &state[..n], way[0] == 1)
 }
 
 // The number that eight bytes are, the lowest first.
@@ -147,17 +166,23 @@ fn wide(bytes: [u8; 8]) -> usize {
 }
 
 // Runs the reading or the addition that follows in an entry, on a file under a state.
-fn file_call(fd: i32, state: &[u8], buffer: &mut [u8], file: usize, adds: bool) -> Step {
+fn file_call(
+    from: &mut impl Read,
+    state: &[u8],
+    buffer: &mut [u8],
+    file: usize,
+    adds: bool,
+) -> Step {
     let mut row = [0u8; 8];
-    let row_read = read_frame(fd, &mut row);
+    let row_read = read_frame(from, &mut row);
     let mut tenant = [0u8; 4];
-    let tenant_read = read_frame(fd, &mut tenant);
+    let tenant_read = read_frame(from, &mut tenant);
     let mut nonce = [0u8; 64];
-    let nonce_read = read_frame(fd, &mut nonce);
+    let nonce_read = read_frame(from, &mut nonce);
     let mut text = [0u8; FILE_ROOM];
-    let text_read = read_frame(fd, &mut text);
+    let text_read = read_frame(from, &mut text);
     let mut answer = [0u8; FILE_ROOM];
-    let answer_read = read_frame(fd, &mut answer);
+    let answer_read = read_frame(from, &mut answer);
     if !(row_read.whole
         & tenant_read.whole
         & nonce_read.whole
@@ -193,46 +218,46 @@ fn file_call(fd: i32, state: &[u8], buffer: &mut [u8], file: usize, adds: bool) 
 }
 
 // Runs the next entry of a list of calls on spill files.
-fn next_file(fd: i32) -> Step {
+fn next_file(from: &mut impl Read) -> Step {
     let mut way = [0u8; 1];
-    let way_read = read_frame(fd, &mut way);
+    let way_read = read_frame(from, &mut way);
     let mut state = [0u8; 728];
-    let state_read = read_frame(fd, &mut state);
+    let state_read = read_frame(from, &mut state);
     let mut buffer = [0u8; FILE_ROOM];
-    let buffer_read = read_frame(fd, &mut buffer);
+    let buffer_read = read_frame(from, &mut buffer);
     let mut file = [0u8; 8];
-    let file_read = read_frame(fd, &mut file);
+    let file_read = read_frame(from, &mut file);
     if !(way_read.whole & state_read.whole & buffer_read.whole & file_read.whole) {
         return Step::Cut;
     }
     let n = state_read.size;
     let k = buffer_read.size;
-    file_call(fd, &state[..n], &mut buffer[..k], wide(file), way[0] == 1)
+    file_call(from, &state[..n], &mut buffer[..k], wide(file), way[0] == 1)
 }
 
 // Runs the next entry of a list of that kind.
-fn next_entry(fd: i32, kind: Kind) -> Step {
+fn next_entry(from: &mut impl Read, kind: Kind) -> Step {
     match kind {
-        Kind::Cases => next_case(fd),
-        Kind::Calls => next_call(fd),
-        Kind::Files => next_file(fd),
+        Kind::Cases => next_case(from),
+        Kind::Calls => next_call(from),
+        Kind::Files => next_file(from),
     }
 }
 
 // The file has no more bytes.
-fn ended(fd: i32) -> bool {
+fn ended(from: &mut impl Read) -> bool {
     let mut byte = [0u8; 1];
-    io::read_full(fd, &mut byte) == 0
+    read_full(from, &mut byte) == 0
 }
 
 // Runs the entries that follow the mark of a list.
-fn run_entries(fd: i32, kind: Kind) -> Tally {
-    let entries = number(fd);
+fn run_entries(from: &mut impl Read, kind: Kind) -> Tally {
+    let entries = number(from);
     let mut agreed = 0;
     let mut wrong = 0;
     let mut i = 0;
     while i < entries {
-        match next_entry(fd, kind) {
+        match next_entry(from, kind) {
             Step::Cut => {
                 break;
             }
@@ -252,22 +277,22 @@ fn run_entries(fd: i32, kind: Kind) -> Tally {
         entries: entries,
         agreed: agreed,
         wrong: wrong,
-        whole: i == entries && ended(fd),
+        whole: i == entries && ended(from),
     }
 }
 
 // Runs a list.
-pub fn run(fd: i32) -> Tally {
+pub fn run(from: &mut impl Read) -> Tally {
     let mut mark = [0u8; 8];
-    io::read_full(fd, &mut mark);
+    read_full(from, &mut mark);
     if check::same(&mark, b"OCBLIST2") {
-        return run_entries(fd, Kind::Cases);
+        return run_entries(from, Kind::Cases);
     }
     if check::same(&mark, b"OCBSTAT1") {
-        return run_entries(fd, Kind::Calls);
+        return run_entries(from, Kind::Calls);
     }
     if check::same(&mark, b"OCBSPIL1") {
-        return run_entries(fd, Kind::Files);
+        return run_entries(from, Kind::Files);
     }
     Tally {
         marked: false,

@@ -3,60 +3,57 @@
 
 mod list; // list.rt: the entries of a list
 
-use libc::STDOUT_FILENO;
 use list::Tally;
+use std::fs::File;
+use std::io;
+use std::rt::Files;
 
-fn say(words: &[u8]) {
-    io::write_all(STDOUT_FILENO, words);
+fn say(rt: &impl Print, words: &str) -> io::Result<()> {
+    rt.print(words)
 }
 
-fn say_number(n: usize) {
-    io::print_decimal(STDOUT_FILENO, n as u64);
+fn say_number(rt: &impl Print, n: usize) -> io::Result<()> {
+    rt.print(n)
 }
 
-fn report(t: Tally) {
+fn report(rt: &impl Print, t: Tally) -> io::Result<()> {
     if !t.marked {
-        say(b": does not start as a list does\n");
-        return;
+        return say(rt, ": does not start as a list does\n");
     }
-    say(b": ");
-    say_number(t.agreed);
-    say(b" of ");
-    say_number(t.entries);
-    say(b" agree");
+    say(rt, ": ")?;
+    say_number(rt, t.agreed)?;
+    say(rt, " of ")?;
+    say_number(rt, t.entries)?;
+    say(rt, " agree")?;
     if t.wrong != 0 {
-        say(b"; the first that does not is number ");
-        say_number(t.wrong);
+        say(rt, "; the first that does not is number ")?;
+        say_number(rt, t.wrong)?;
     }
     if !t.whole {
-        say(b"; the list is cut, or has bytes behind its last entry");
+        say(rt, "; the list is cut, or has bytes behind its last entry")?;
     }
-    say(b"\n");
+    say(rt, "\n")
 }
 
-fn replay(name: &[u8]) {
-    say(name);
-    let fd = os::open_read(name);
-    if fd < 0 {
-        say(b": cannot be opened\n");
-        return;
-    }
-    let tally = list::run(fd);
-    libc::close(fd);
-    report(tally);
+fn replay(rt: &(impl Files + Print), name: &str) -> io::Result<()> {
+    say(rt, name)?;
+    let Ok(mut file) = File::open(rt, name) else {
+        return say(rt, ": cannot be opened\n");
+    };
+    report(rt, list::run(&mut file))
 }
 
-fn main() {
-    replay(b"rfc7253.list");
-    replay(b"rfc7253-iterated.list");
-    replay(b"lengths.list");
-    replay(b"edges.list");
-    replay(b"flipped.list");
-    replay(b"departures.list");
-    replay(b"long.list");
-    replay(b"states.list");
-    replay(b"spill.list");
-    replay(b"wrong.list");
-    replay(b"wrong-states.list");
-    replay(b"wrong-spill.list");
+fn main(rt: HostRuntime) -> io::Result<()> {
+    replay(&rt, "rfc7253.list")?;
+    replay(&rt, "rfc7253-iterated.list")?;
+    replay(&rt, "lengths.list")?;
+    replay(&rt, "edges.list")?;
+    replay(&rt, "flipped.list")?;
+    replay(&rt, "departures.list")?;
+    replay(&rt, "long.list")?;
+    replay(&rt, "states.list")?;
+    replay(&rt, "spill.list")?;
+    replay(&rt, "wrong.list")?;
+    replay(&rt, "wrong-states.list")?;
+    replay(&rt, "wrong-spill.list")
 }
