@@ -1,6 +1,5 @@
-// OCB3 over AES and spill files for programs in C and Rust: exported functions over numbers and byte slices. A slice is passed as its address and then
-// its length. The state of a key lives in a buffer that the caller lends; specs/Buffer.antt says how it lies there. include/ocb.h is the
-// same for a reader of C.
+// OCB3 over AES and spill files for programs in C and Rust: functions over numbers and byte slices, which ocb_link exports. The state of a key lives in a
+// buffer that the caller lends; specs/Buffer.antt says how it lies there. include/ocb.h is the same for a reader of C.
 #![tactic(auto)]
 
 ghost use Rattle.std.specs.Prelude.{◌≡◌, length};
@@ -74,8 +73,7 @@ fn encode(s: State, buffer: &mut [u8])
 }
 
 // How many bytes the buffer of a state has.
-#[unsafe(no_mangle)]
-pub extern "C" fn ocb_state_size() -> usize
+pub fn ocb_state_size() -> usize
     ensures { result ≡ state_size }
 {
     STATE_SIZE
@@ -94,8 +92,7 @@ fn refuse_size(buffer: &[u8]) -> usize
 // ---- The entry points
 
 // Makes the state of a key of 16, 24 or 32 bytes in the buffer, for texts and data of at most 2^m blocks; m is 1 to 26.
-#[unsafe(no_mangle)]
-pub extern "C" fn ocb_set_up(state: &mut [u8], key: &[u8], m: usize) -> usize
+pub fn ocb_set_up(state: &mut [u8], key: &[u8], m: usize) -> usize
     ensures { Kept (set_up_in state.old key.now m) result state.new }
 {
     let refused = refuse_size(state);
@@ -108,8 +105,7 @@ pub extern "C" fn ocb_set_up(state: &mut [u8], key: &[u8], m: usize) -> usize
 }
 
 // Seals the text where it lies and writes the tag; `calls` takes the count of cipher calls.
-#[unsafe(no_mangle)]
-pub extern "C" fn ocb_seal(
+pub fn ocb_seal(
     state: &[u8],
     nonce: &[u8],
     ad: &[u8],
@@ -131,8 +127,7 @@ pub extern "C" fn ocb_seal(
 }
 
 // Opens the text where it lies, or makes it zeros; `calls` takes the count of cipher calls.
-#[unsafe(no_mangle)]
-pub extern "C" fn ocb_open(
+pub fn ocb_open(
     state: &[u8],
     nonce: &[u8],
     ad: &[u8],
@@ -157,8 +152,7 @@ pub extern "C" fn ocb_open(
 
 // Reads a row of the file that is the first `file` bytes of the buffer into the front of the output; `written` takes how many bytes of it
 // were written, `calls` the count of cipher calls.
-#[unsafe(no_mangle)]
-pub extern "C" fn spill_read(
+pub fn spill_read(
     state: &[u8],
     buffer: &[u8],
     file: usize,
@@ -185,8 +179,7 @@ pub extern "C" fn spill_read(
 
 // Adds a text as a row of the file that is the first `file` bytes of the buffer; `new_length` takes the file's length afterwards, `calls` the
 // count of cipher calls.
-#[unsafe(no_mangle)]
-pub extern "C" fn spill_add(
+pub fn spill_add(
     state: &[u8],
     buffer: &mut [u8],
     file: usize,
