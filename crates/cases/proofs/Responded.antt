@@ -9,7 +9,7 @@ use native.Mathlib.Omega.{arith}
 use borrow.Author.Tests.{le-leb, lt-leb}
 use lib.ListN.{length, take, drop, length-append, length-drop, length-take, length-replicate}
 use Rattle.standards.specs.Strings.{zeros}
-use lib.Seq.{take_at, length-take-le}
+use lib.Seq.{take_at}
 use Rattle.cases.specs.Case.{word, lengths, malformed, bodies, Case, Decoded, bad, good, decode, outcome}
 use Rattle.lines.specs.Text.{lines, Puts}
 use Rattle.cases.specs.Output.{bad_line, output}
