@@ -42,9 +42,9 @@ def port_command(given):
             return shlex.split(given)
         except ValueError:
             raise Trouble(f"--port is no command line: {given}") from None
-    program = Path(__file__).resolve().parent.parent / "target/bin/ocb_stream"
+    program = Path(__file__).resolve().parent.parent / "crates/ocb_stream/out/ocb_stream"
     if not program.exists():
-        raise Trouble("no target/bin/ocb_stream: 'rt check ocb_stream' builds it, or --port COMMAND names another program")
+        raise Trouble("no crates/ocb_stream/out/ocb_stream: 'rt run </dev/null' in crates/ocb_stream builds it, or --port COMMAND names another program")
     return [str(program)]
 
 
