@@ -8,8 +8,6 @@ use Rattle.aes.specs.Cipher.Body.{dec_is, deciphers_inv_sbox}
 use Rattle.aes.proofs.decipher_with.Goals as goal
 
 pub inv_cipher-requires : goal.inv_cipher-requires
--- `aes::decipher_with` meets its contract: its rounds on the block's state, with the tables that are lent.
--- Assumes nothing.
 inv_cipher-requires c =
     let tables = deciphers_inv_sbox c.args.tables.now c.requires.0 in
     let within = rounds_within c.requires.1 in

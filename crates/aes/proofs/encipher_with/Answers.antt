@@ -8,8 +8,6 @@ use Rattle.aes.specs.Cipher.Body.{enc_is, enciphers_sbox}
 use Rattle.aes.proofs.encipher_with.Goals as goal
 
 pub cipher-requires : goal.cipher-requires
--- `aes::encipher_with` meets its contract: its rounds on the block's state, with the tables that are lent.
--- Assumes nothing.
 cipher-requires c =
     let tables = enciphers_sbox c.args.tables.now c.requires.0 in
     let within = rounds_within c.requires.1 in

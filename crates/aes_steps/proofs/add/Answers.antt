@@ -5,7 +5,5 @@ use Rattle.standards.specs.Strings.{◌⊕◌}
 use Rattle.aes_steps.proofs.add.Goals as goal
 
 pub returns : goal.returns
--- `aes_steps::add` meets its contract: the sum is exclusive or.
--- Assumes nothing.
 unfolding ◌⊕◌
 returns c = refl

@@ -5,7 +5,5 @@ use Rattle.aes_steps.specs.LookUp.{look_up}
 use Rattle.aes_steps.proofs.look_up.Goals as goal
 
 pub returns : goal.returns
--- `aes_steps::look_up` meets its contract: the table's entry, by definition.
--- Assumes nothing.
 unfolding look_up
 returns c = refl

@@ -5,7 +5,5 @@ use Rattle.aes_steps.proofs.MixLaws.{mix_row}
 use Rattle.aes_steps.proofs.mix.Goals as goal
 
 pub returns : goal.returns
--- `aes_steps::mix` meets its contract: the row of the matrix by doublings.
--- Assumes nothing.
 unfolding ◌⊕◌
 returns c = mix_row _ _ _ _ _ _ c.double.ensures c.double-2.ensures

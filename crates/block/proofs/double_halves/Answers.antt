@@ -11,7 +11,6 @@ use Rattle.block.proofs.DoubleLaws.{double_words}
 use Rattle.block.proofs.double_halves.Goals as goal
 
 pub returns : goal.returns
--- `block::double_halves` meets its contract: the bit carried is the low word's top bit, the bit lost the high word's. Assumes nothing.
 unfolding ◌⊕◌
 returns c =
     let x : Halves = c.args.x in

@@ -14,7 +14,6 @@ use Rattle.block.proofs.halves_of.Goals as goal
 
 -- eight bytes are those of their number
 word : (b : List ℕ) (at : ℕ) → at + 8 ≤ length b → Bytes b → to_bytes 8 (num (take 8 (drop at b))) ≡ take 8 (drop at b)
--- `block::halves_of` meets its contract: a block is the bytes of its first eight bytes' number and of its last eight's. Assumes nothing.
 word b at h hb =
     let S : List ℕ = take 8 (drop at b) in
     let e : length S ≡ 8 = length-take-le 8 (drop at b) (omega (arith, length-drop at b)) in

@@ -4,7 +4,6 @@ use Rattle.block.proofs.WordLaws.{le_read}
 use Rattle.block.proofs.load_le32.Goals as goal
 
 pub returns : goal.returns
--- `block::load_le32` meets its contract: four bytes by their weights. Assumes nothing.
 returns c =
     let sum =
     le_read c.args.s.now c.args.at c.requires c.byte-a.ensures.0 c.byte-b.ensures.0

@@ -10,7 +10,6 @@ use Rattle.block.proofs.store_halves.Goals as goal
 
 -- x written over S from place at on, and y behind it: eight bytes each
 laid : (S x y : List ℕ) (at : ℕ) → at + 16 ≤ length S → length x ≡ 8
-    -- `block::store_halves` meets its contract: one word is laid behind the other. Assumes nothing.
     → let T : List ℕ = take at S ++ (x ++ drop 8 (drop at S)) in
     take (at + 8) T ++ (y ++ drop 8 (drop (at + 8) T)) ≡ take at S ++ ((x ++ y) ++ drop (at + 16) S)
 laid S x y at h e =

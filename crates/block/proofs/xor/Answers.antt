@@ -11,7 +11,6 @@ use Rattle.block.proofs.Owned.{owned_length}
 use Rattle.block.proofs.xor.Goals as goal
 
 bytewise : (a b : List ℕ) → length a ≡ 16 → length b ≡ 16 → tabulate 16 (λ i. get_or a i 0 ⊕ get_or b i 0) ≡ a xor b
--- `block::xor` meets its contract: its literal has the xor of the two blocks' bytes at each place. Each index is below 16. Assumes nothing.
 bytewise a b ha hb =
     sym
     (is_literal 16 (λ i. get_or a i 0 ⊕ get_or b i 0) (a xor b) (xor_length a b ∙ ha)

@@ -7,7 +7,5 @@ use Rattle.field.specs.Tables.Body.{rcon_table_is}
 use Rattle.field.proofs.round_constants.Goals as goal
 
 pub returns : goal.returns
--- `field::round_constants` meets its contract: each entry is computed by repeated doubling and compared.
--- Assumes nothing.
 unfolding rcon xtime ◌⊕◌
 returns c = sym rcon_table_is

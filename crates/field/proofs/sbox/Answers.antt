@@ -7,7 +7,5 @@ use Rattle.field.specs.Tables.Body.{sbox_table_is}
 use Rattle.field.proofs.sbox.Goals as goal
 
 pub returns : goal.returns
--- `field::sbox` meets its contract: the 256 entries of the code's table are computed by the rule and compared.
--- Assumes nothing.
 unfolding sbox affine inverse power ◌•◌ times xtime ◌⊕◌
 returns c = sym sbox_table_is

@@ -1,3 +1,4 @@
+-- `spill_add::equal` meets its contract. The loop's invariant: the two strings are the same if what is left of them from `i` on is.
 use mathlib.Core.Path.{refl, sym, ◌∙◌}
 use native.Mathlib.Omega.{arith}
 use borrow.Author.Rules.{rules}

@@ -1,3 +1,4 @@
+-- `spill_form::check` meets its contract: two lengths are tested, and then the file's bytes.
 use mathlib.Core.Path.{◌∙◌}
 use native.Mathlib.Omega.{arith}
 use borrow.Author.Tests.{lt-ltb}

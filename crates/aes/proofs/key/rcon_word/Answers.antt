@@ -9,8 +9,6 @@ use Rattle.field.proofs.TableLaws.{rcon_entry}
 use Rattle.aes.proofs.key.rcon_word.Goals as goal
 
 pub returns : goal.returns
--- `aes::key::rcon_word` meets its contract: the lent table's entry is the round's constant.
--- Assumes nothing.
 returns c =
     let round = c.args.round in
     ap (λ x. x ∷ 0 ∷ 0 ∷ 0 ∷ []) (ap (λ t. get_or t (round - 1) 0) c.requires.0 ∙ rcon_entry (round - 1) (omega arith))

@@ -5,8 +5,6 @@ use Rattle.aes_steps.proofs.MixLaws.{inv_mix_row}
 use Rattle.aes_steps.proofs.inverse.inv_mix.Goals as goal
 
 pub returns : goal.returns
--- `aes_steps::inverse::inv_mix` meets its contract: the row of the matrix by repeated doublings.
--- Assumes nothing.
 unfolding ◌⊕◌
 returns c =
     inv_mix_row _ _ _ _ _ _ _ _ _ _
