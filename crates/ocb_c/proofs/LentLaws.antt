@@ -1,4 +1,4 @@
--- The exported functions against the entry points: the buffer's size is tested first, and behind that test each is the entry point over the
+-- The functions that ocb_link exports, against the entry points: the buffer's size is tested first, and behind that test each is the entry point over the
 -- state that the buffer holds. A buffer that ocb_set_up wrote holds the state that set_up gives. Assumes nothing.
 use mathlib.Core.Path.{◌≡◌, refl, sym, ap, subst, ◌∙◌}
 use mathlib.Core.Bool.{not}

@@ -1,4 +1,4 @@
--- What the exported functions answer and leave, for every input: the entry points' answers (ocb/specs/Answers.antt, spill_form/specs/Reading.antt and
+-- What the functions that ocb_link exports answer and leave, for every input: the entry points' answers (ocb/specs/Answers.antt, spill_form/specs/Reading.antt and
 -- Adding.antt) over the state that a lent buffer holds, and one number of their own.
 use Rattle.std.specs.Prelude.{◌≡◌, not, List, [], ◌∷◌, ℕ, zero, suc, eqb, length}
 use Rattle.ocb.specs.declared.SetUp.{SetUp}

@@ -1,7 +1,8 @@
 -- `aes::key::expand` meets its contract: first the key is copied, then each turn adds a word. Words before i are not written again.
 -- Assumes nothing.
 use mathlib.Core.Path.{◌≡◌, sym, ◌∙◌}
-use Prim.Native.Nat.{◌*◌, ◌≤◌}
+use mathlib.Core.List.{List}
+use Prim.Native.Nat.{ℕ, ◌*◌, ◌≤◌}
 use native.Mathlib.Omega.{arith}
 use lib.ListN.{length, drop}
 use lib.Seq.{take_all}
@@ -11,7 +12,10 @@ use Rattle.aes.proofs.key.expand.Goals as goal
 pub loop-i-init : goal.loop-i-init
 loop-i-init c =
     let sizes = c.requires.2 in
-    (c.copy.auto.to, omega arith, omega arith, key_copied c.args.nk (length c.args.w.now) c.args.key.now _ (drop (length c.args.key.now) c.args.w.now) sizes.key_size (omega (arith, sizes.room, sizes.longer)) c.copy.ensures)
+    let key : List ℕ = c.args.key.now in
+    let w : List ℕ = c.args.w.now in
+    let fits : 4 * c.args.nk ≤ length w = omega (arith, sizes.room, sizes.longer) in
+    (c.copy.auto.to, omega arith, omega arith, key_copied c.args.nk (length w) key _ (drop (length key) w) sizes.key_size fits c.copy.ensures)
 
 pub loop-i-preserved : goal.loop-i-preserved
 loop-i-preserved c =
