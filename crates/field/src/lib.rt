@@ -1,5 +1,4 @@
 // The field GF(2^8) of FIPS 197, section 4, and the tables of section 5: S-box, inverse S-box and round constants.
-// A table is named once by whoever works with it, and lent down: a const that is named in a leaf is built anew at each call.
 #![tactic(auto)]
 
 mod inv_sbox_table;
@@ -10,24 +9,24 @@ ghost use Rattle.standards.specs.Fips197.{xtime};
 ghost use Rattle.field.specs.Tables.{sbox_table, inv_sbox_table, rcon_table};
 
 // Rcon[1] to Rcon[10].
-const RCON: [u8; 10] = [0x01, 0x02, 0x04, 0x08, 0x10, 0x20, 0x40, 0x80, 0x1b, 0x36];
+static RCON: [u8; 10] = [0x01, 0x02, 0x04, 0x08, 0x10, 0x20, 0x40, 0x80, 0x1b, 0x36];
 
-pub fn sbox() -> [u8; 256]
-    ensures { result ≡ sbox_table }
+pub fn sbox() -> &'static [u8; 256]
+    ensures { result.now ≡ sbox_table }
 {
-    sbox_table::SBOX
+    &sbox_table::SBOX
 }
 
-pub fn inv_sbox() -> [u8; 256]
-    ensures { result ≡ inv_sbox_table }
+pub fn inv_sbox() -> &'static [u8; 256]
+    ensures { result.now ≡ inv_sbox_table }
 {
-    inv_sbox_table::INV_SBOX
+    &inv_sbox_table::INV_SBOX
 }
 
-pub fn round_constants() -> [u8; 10]
-    ensures { result ≡ rcon_table }
+pub fn round_constants() -> &'static [u8; 10]
+    ensures { result.now ≡ rcon_table }
 {
-    RCON
+    &RCON
 }
 
 // The product by x: XTIMES of section 4.2.

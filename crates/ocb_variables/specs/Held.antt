@@ -4,6 +4,7 @@ use Rattle.standards.specs.Rfc7253.{Key, block_at}
 use Rattle.aes.specs.Cipher.{enc, dec}
 use Rattle.ocb_variables.specs.declared.KeyValues.{KeyValues}
 use Rattle.ocb_variables.specs.declared.State.{State}
+use Rattle.ocb_variables.specs.declared.LentKey.{LentKey}
 
 -- the key that lent parts are: round keys rk, a table whose block i is L_i, and the values v
 abbrev pub lent_key : List ℕ → List ℕ → KeyValues → Key
@@ -17,3 +18,7 @@ lent_key rk table v = record {
 
 abbrev pub held : State → Key
 held s = lent_key s.round_keys s.table s.values
+
+-- and the key that is lent to the walks
+abbrev pub key_of : LentKey → Key
+key_of k = lent_key k.cipher.round_keys.now k.table.now (record { rounds = k.cipher.rounds; star = k.star; dollar = k.dollar; m = k.m })

@@ -1,21 +1,22 @@
 // What depends on the key and what depends on the nonce (RFC 7253, sections 4.1 and 4.2): the L values, the nonce block, Stretch and
-// the first offset. The cipher's tables and the round keys are lent down, not copied. t is a tag's length in bytes.
+// the first offset. t is a tag's length in bytes.
 #![tactic(auto)]
 
 ghost use Rattle.std.specs.Prelude.{◌≡◌, ◌≤◌, ◌<◌, length};
 ghost use Rattle.sizes.specs.Sizes.{Rounds, m_most};
 ghost use Rattle.standards.specs.InBytes.{nonce_block, stretch_of, cut_of, initial_offset};
-ghost use Rattle.aes.specs.Cipher.{enc, EnciphersWith};
+ghost use Rattle.aes.specs.Cipher.{enc};
+ghost use Rattle.ocb_variables.specs.Held.{held, key_of};
 ghost use Rattle.ocb_variables.specs.State.{table_of, state_of};
 ghost use Rattle.ocb_variables.specs.Nonce.{Admitted, variables_of, bits_from};
 
-use aes::EncipherTables;
+use aes::Cipher;
 use block::Halves;
 use sizes::{Block, RoundKeys, TABLE_BYTES, Table};
 
 // ---- Key-dependent variables
 
-// What goes by value wherever round keys and table are lent: the number of rounds, L_*, L_$, and m: the table is filled to L_m.
+// The number of rounds, L_*, L_$, and m: the table is filled to L_m.
 #[derive(Clone, Copy)]
 pub struct KeyValues {
     pub rounds: usize,
@@ -32,6 +33,32 @@ pub struct State {
     pub table: Table,
 }
 
+// The key that a state holds, lent to the walks: its cipher, its table of L_0 to L_m, L_* and L_$.
+#[derive(Clone, Copy)]
+pub struct LentKey<'a> {
+    pub cipher: Cipher<'a>,
+    pub table: &'a Table,
+    pub star: Block,
+    pub dollar: Block,
+    pub m: usize,
+}
+
+impl State {
+    pub fn lend(&self) -> LentKey<'_>
+        requires { Rounds self.now.values.rounds }
+        ensures key { key_of result ≡ held self.now }
+        ensures m { result.m ≡ self.now.values.m }
+    {
+        LentKey {
+            cipher: Cipher::new(&self.round_keys, self.values.rounds),
+            table: &self.table,
+            star: self.values.star,
+            dollar: self.values.dollar,
+            m: self.values.m,
+        }
+    }
+}
+
 // The table of L_0 to L_m: each L is the double of the one before, and L_0 that of L_$. They are doubled as words and become bytes in the
 // table only.
 fn l_table(dollar: Block, m: usize) -> Table
@@ -40,40 +67,30 @@ fn l_table(dollar: Block, m: usize) -> Table
 {
     let mut table = [0u8; TABLE_BYTES];
     let mut l = block::halves_of(dollar);
-    let mut i = 0;
-    while i <= m {
-        let next = block::double_halves(l);
-        block::store_halves(&mut table, i * 16, next);
-        l = next;
-        i += 1;
+    for i in 0..m + 1 {
+        l = block::double_halves(l);
+        block::store_halves(&mut table, i * 16, l);
     }
     table
 }
 
 // The state of these round keys. L_* is the zero block enciphered, L_$ its double.
-pub fn key_dependent_variables(
-    tables: &EncipherTables,
-    rk: RoundKeys,
-    rounds: usize,
-    m: usize,
-) -> State
-    requires { (EnciphersWith tables.now) × (Rounds rounds) × (m ≤ m_most) }
-    ensures { result ≡ state_of rk rounds m }
+pub fn key_dependent_variables(round_keys: RoundKeys, rounds: usize, m: usize) -> State
+    requires { (Rounds rounds) × (m ≤ m_most) }
+    ensures { result ≡ state_of round_keys rounds m }
 {
-    let zero = [0u8; 16];
-    let star = aes::encipher_with(tables, &rk, rounds, zero);
+    let star = Cipher::new(&round_keys, rounds).encipher([0; 16]);
     let dollar = block::double(star);
     let table = l_table(dollar, m);
-    let values = KeyValues {
-        rounds: rounds,
-        star: star,
-        dollar: dollar,
-        m: m,
-    };
     State {
-        round_keys: rk,
-        values: values,
-        table: table,
+        round_keys,
+        values: KeyValues {
+            rounds,
+            star,
+            dollar,
+            m,
+        },
+        table,
     }
 }
 
@@ -99,10 +116,8 @@ fn stretch_of(ktop: Block) -> [u8; 24]
 {
     let mut stretch = [0u8; 24];
     block::store(&mut stretch, 0, ktop);
-    let mut j = 0;
-    while j < 8 {
+    for j in 0..8 {
         stretch[16 + j] = ktop[j] ^ ktop[j + 1];
-        j += 1;
     }
     stretch
 }
@@ -114,26 +129,16 @@ pub struct NonceVariables {
 }
 
 // Bottom is the low six bits of the nonce block; Ktop is the block with those bits cleared, enciphered.
-pub fn nonce_dependent_variables(
-    tables: &EncipherTables,
-    rk: &RoundKeys,
-    rounds: usize,
-    nonce: &[u8],
-    t: usize,
-) -> NonceVariables
-    requires { (EnciphersWith tables.now) × (Rounds rounds) × (Admitted (length nonce.now) t) }
-    ensures { result ≡ variables_of (enc rounds rk.now) t nonce.now }
+pub fn nonce_dependent_variables(cipher: &Cipher<'_>, nonce: &[u8], t: usize) -> NonceVariables
+    requires { Admitted (length nonce.now) t }
+    ensures { result ≡ variables_of (enc cipher.now.rounds cipher.now.round_keys.now) t nonce.now }
 {
     let mut top = nonce_block(nonce, t);
     let last = top[15];
     let bottom = (last & 63) as usize;
     top[15] = last & 192;
-    let ktop = aes::encipher_with(tables, rk, rounds, top);
-    let stretch = stretch_of(ktop);
-    NonceVariables {
-        bottom: bottom,
-        stretch: stretch,
-    }
+    let stretch = stretch_of(cipher.encipher(top));
+    NonceVariables { bottom, stretch }
 }
 
 // ---- The first offset
@@ -167,18 +172,10 @@ fn cut(stretch: [u8; 24], bottom: usize) -> Block
 }
 
 // Offset_0. Of a key it takes the cipher alone.
-pub fn initial_offset(
-    tables: &EncipherTables,
-    rk: &RoundKeys,
-    rounds: usize,
-    nonce: &[u8],
-    t: usize,
-) -> Block
-    requires { (EnciphersWith tables.now) × (Rounds rounds) × (Admitted (length nonce.now) t) }
-    ensures { result ≡ initial_offset (enc rounds rk.now) t nonce.now }
+pub fn initial_offset(cipher: &Cipher<'_>, nonce: &[u8], t: usize) -> Block
+    requires { Admitted (length nonce.now) t }
+    ensures { result ≡ initial_offset (enc cipher.now.rounds cipher.now.round_keys.now) t nonce.now }
 {
-    let v = nonce_dependent_variables(tables, rk, rounds, nonce, t);
-    let bottom = v.bottom;
-    let stretch = v.stretch;
-    cut(stretch, bottom)
+    let v = nonce_dependent_variables(cipher, nonce, t);
+    cut(v.stretch, v.bottom)
 }

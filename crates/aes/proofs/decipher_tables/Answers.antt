@@ -4,4 +4,4 @@ use Rattle.aes.specs.Cipher.Body.{inv_sbox_deciphers}
 use Rattle.aes.proofs.decipher_tables.Goals as goal
 
 pub returns : goal.returns
-returns c = inv_sbox_deciphers c.inv_sbox.result c.inv_sbox.ensures
+returns c = inv_sbox_deciphers c.inv_sbox.result.now c.inv_sbox.ensures

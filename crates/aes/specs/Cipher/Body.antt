@@ -1,5 +1,6 @@
 -- What the definitions are: FIPS 197's cipher and inverse cipher, with the S-box and with its inverse.
 use Rattle.std.specs.Prelude.{◌≡◌, refl, List, ℕ}
+use Rattle.std.proofs.Props.{props}
 use Rattle.standards.specs.Fips197.{encipher, decipher}
 use Rattle.field.specs.Tables.{sbox_table, inv_sbox_table}
 use Rattle.aes.specs.Cipher.{enc, dec, EnciphersWith, DeciphersWith}
@@ -27,3 +28,12 @@ inv_sbox_deciphers t e = e
 pub deciphers_inv_sbox : (t : List ℕ) → DeciphersWith t → t ≡ inv_sbox_table
 unfolding DeciphersWith
 deciphers_inv_sbox t e = e
+
+-- each fact has one proof, so that a value can carry it
+pub enciphers_fact : (t : List ℕ) → IsProp (EnciphersWith t)
+unfolding EnciphersWith
+enciphers_fact t = Prim.hlevel props
+
+pub deciphers_fact : (t : List ℕ) → IsProp (DeciphersWith t)
+unfolding DeciphersWith
+deciphers_fact t = Prim.hlevel props

@@ -1,5 +1,4 @@
 use mathlib.Core.Path.{◌≡◌}
-use Prim.Native.Nat.{◌+◌, ◌-◌, ◌≤◌}
 use lib.ListN.{length}
 use Rattle.sizes.specs.Sizes.{table_bytes}
 use Rattle.standards.specs.Strings.{zeros}
@@ -8,7 +7,4 @@ use Rattle.ocb_variables.proofs.TableLaws.{Filled}
 use Rattle.ocb_variables.proofs.l_table.Given as goal
 
 abbrev pub invariant-loop-i : goal.invariant-loop-i
-invariant-loop-i l = (l.i ≤ l.m + 1) × (length l.table ≡ table_bytes) × Filled (block_of l.initial.l) (zeros table_bytes) l.table (block_of l.l) l.i
-
-abbrev pub decreases-loop-i : goal.decreases-loop-i
-decreases-loop-i l = l.m + 1 - l.i
+invariant-loop-i l = (length l.table ≡ table_bytes) × Filled (block_of l.initial.l) (zeros table_bytes) l.table (block_of l.l) l.i

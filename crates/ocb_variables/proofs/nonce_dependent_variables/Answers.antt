@@ -6,4 +6,4 @@ use Rattle.ocb_variables.proofs.nonce_dependent_variables.Goals as goal
 pub returns : goal.returns
 returns c =
     let block = c.nonce_block-top in
-    variables_made _ _ _ block.ensures (owned_bytes 16 block.result _ block.type_inv 15) c.encipher_with-ktop.ensures c.stretch_of-stretch.ensures
+    variables_made _ _ _ block.ensures (owned_bytes 16 block.result _ block.type_inv 15) c.encipher.ensures c.stretch_of-stretch.ensures

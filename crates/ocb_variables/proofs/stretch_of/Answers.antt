@@ -13,16 +13,15 @@ use Rattle.ocb_variables.proofs.stretch_of.Goals as goal
 pub loop-j-init : goal.loop-j-init
 loop-j-init c =
     let k : List ℕ = c.args.ktop in
-    (search rules, search rules, c.store.ensures ∙ paste-zero (k ++ zeros 8) 16 (behind k))
+    (search rules, c.store.ensures ∙ paste-zero (k ++ zeros 8) 16 (behind k))
 
 pub loop-j-preserved : goal.loop-j-preserved
 unfolding ◌⊕◌
 loop-j-preserved c =
     let l = c.loop-j in
     let k : List ℕ = c.args.ktop in (
-      omega arith,
-      l.invariant.1,
-      stretch_turn k l.invariant.1 (k ++ zeros 8) l.stretch l.j (simp length-append (omega arith)) c.loop-j-test.true l.invariant.2,
+      l.invariant.0,
+      stretch_turn k l.invariant.0 (k ++ zeros 8) l.stretch l.j (simp length-append (omega arith)) c.loop-j-test.true l.invariant.1,
     )
 
 pub returns : goal.returns
@@ -30,4 +29,4 @@ returns c =
     let l = c.loop-j in
     let k : List ℕ = c.args.ktop in
     let e : l.j ≡ 8 = omega arith in
-    stretch_made k l.invariant.1 l.stretch (l.invariant.2 ∙ ap (paste (k ++ zeros 8) 16 (behind k)) e)
+    stretch_made k l.invariant.0 l.stretch (l.invariant.1 ∙ ap (paste (k ++ zeros 8) 16 (behind k)) e)

@@ -1,16 +1,16 @@
--- `aes::decipher_with` meets its contract: its rounds on the block's state, with the tables that are lent.
+-- `aes::Cipher::decipher` meets its contract: its rounds on the block's state, with the tables that are lent.
 -- Assumes nothing.
 use mathlib.Core.Path.{sym, ap, ◌∙◌}
 use borrow.Author.Rules.{rules}
 use Rattle.sizes.proofs.KeyLaws.{rounds_within}
 use Rattle.standards.specs.Fips197.{to_block, inv_cipher, decipher}
 use Rattle.aes.specs.Cipher.Body.{dec_is, deciphers_inv_sbox}
-use Rattle.aes.proofs.decipher_with.Goals as goal
+use Rattle.aes.proofs.Cipher.decipher.Goals as goal
 
 pub inv_cipher-requires : goal.inv_cipher-requires
 inv_cipher-requires c =
-    let tables = deciphers_inv_sbox c.args.tables.now c.requires.0 in
-    let within = rounds_within c.requires.1 in
+    let tables = deciphers_inv_sbox c.args.self.now.backward.now c.args.self.now.deciphers in
+    let within = rounds_within c.args.self.now.admitted in
     search rules
 
 pub returns : goal.returns

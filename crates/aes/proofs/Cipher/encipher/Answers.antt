@@ -1,16 +1,16 @@
--- `aes::encipher_with` meets its contract: its rounds on the block's state, with the tables that are lent.
+-- `aes::Cipher::encipher` meets its contract: its rounds on the block's state, with the tables that are lent.
 -- Assumes nothing.
 use mathlib.Core.Path.{sym, ap, ◌∙◌}
 use borrow.Author.Rules.{rules}
 use Rattle.sizes.proofs.KeyLaws.{rounds_within}
 use Rattle.standards.specs.Fips197.{to_block, cipher, encipher}
 use Rattle.aes.specs.Cipher.Body.{enc_is, enciphers_sbox}
-use Rattle.aes.proofs.encipher_with.Goals as goal
+use Rattle.aes.proofs.Cipher.encipher.Goals as goal
 
 pub cipher-requires : goal.cipher-requires
 cipher-requires c =
-    let tables = enciphers_sbox c.args.tables.now c.requires.0 in
-    let within = rounds_within c.requires.1 in
+    let tables = enciphers_sbox c.args.self.now.forward.now c.args.self.now.enciphers in
+    let within = rounds_within c.args.self.now.admitted in
     search rules
 
 pub returns : goal.returns
