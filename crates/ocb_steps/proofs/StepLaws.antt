@@ -1,6 +1,6 @@
 -- From what a step's calls ensure to what the step ensures, over plain values. Assumes nothing.
-use mathlib.Core.Path.{◌≡◌, refl, sym, ap, ap₂, subst⁻¹, ◌∙◌}
-use mathlib.Core.Bool.{Bool}
+use mathlib.Core.Path.{◌≡◌, refl, sym, ap, ap₂, ◌∙◌}
+use mathlib.Core.Bool.{Bool, true, false, cond}
 use mathlib.Core.List.{List, [], ◌∷◌, ◌++◌, append-nil}
 use Prim.Native.Nat.{ℕ, ◌+◌, ◌<◌}
 use native.Mathlib.Nat.{not-suc-le-zero}
@@ -11,7 +11,7 @@ use Rattle.standards.specs.Strings.{◌xor◌}
 use Rattle.standards.specs.Rfc7253.{Key, ntz, block_at, hash_block, padded, last_text, last_hash}
 use Rattle.block.proofs.StringLaws.{xor_take}
 use Rattle.ocb_steps.specs.declared.Run.{Run}
-use Rattle.ocb_steps.specs.Steps.{turned, summed, next_offset, after, One, Two, Last}
+use Rattle.ocb_steps.specs.Steps.{turned, summed, next_offset, after, One, Two, Last, last_plain}
 
 -- ---- a store over the whole of a block, and two over a pair
 
@@ -32,13 +32,19 @@ after_made : {o x s : List ℕ} (g : List ℕ → List ℕ → List ℕ) (K : Ke
 unfolding after next_offset
 after_made g K S r eo ex es = cc
 
--- b is what a block becomes, x what the checksum takes of it
+-- what the checksum takes is what stood there, or what stands there now
+plain_summed : {b : List ℕ} (opens : Bool) (K : Key) (o a : List ℕ) → b ≡ turned opens K o a → cond opens b a ≡ summed opens K o a
+plain_summed false K o a e = refl
+plain_summed true K o a e = e
+
+-- a block a becomes b, and x is what the checksum takes of it
 module _ (opens : Bool) (K : Key) where
   pub one_made : {a o b x s S' : List ℕ} (S : List ℕ) (r : Run) → length S ≡ 16 → a ≡ take 16 (drop 0 S) → o ≡ r.offset xor K.L (ntz (r.done + 1))
-      → b ≡ turned opens K o a → x ≡ summed opens K o a → s ≡ r.sum xor x → S' ≡ take 0 S ++ (b ++ drop 16 S)
+      → b ≡ turned opens K o a → x ≡ cond opens b a → s ≡ r.sum xor x → S' ≡ take 0 S ++ (b ++ drop 16 S)
       → One opens K S r S' (record { done = r.done + 1; offset = o; sum = s })
   unfolding next_offset
-  one_made {b = b} S r h ea eo eb ex es et =
+  one_made {b = b} S r h ea eo eb ep es et =
+      let ex = ep ∙ plain_summed opens K _ _ eb in
       let whole = ea ∙ take_all 16 S (omega arith) in
       record {
         run = after_made (summed opens K) K S r eo (ex ∙ ap (summed opens K _) whole) es;
@@ -48,12 +54,14 @@ module _ (opens : Bool) (K : Key) where
   pub two_made : {a₁ a₂ o₁ o₂ b₁ b₂ x₁ x₂ s₁ s₂ T S' : List ℕ} (S : List ℕ) (r : Run) → length S ≡ 32 → length b₁ ≡ 16
       → a₁ ≡ take 16 (drop 0 S) → a₂ ≡ take 16 (drop 16 S)
       → o₁ ≡ r.offset xor K.L (ntz (r.done + 1)) → o₂ ≡ o₁ xor K.L (ntz (r.done + 1 + 1))
-      → b₁ ≡ turned opens K o₁ a₁ → b₂ ≡ turned opens K o₂ a₂ → x₁ ≡ summed opens K o₁ a₁ → x₂ ≡ summed opens K o₂ a₂
+      → b₁ ≡ turned opens K o₁ a₁ → b₂ ≡ turned opens K o₂ a₂ → x₁ ≡ cond opens b₁ a₁ → x₂ ≡ cond opens b₂ a₂
       → s₁ ≡ r.sum xor x₁ → s₂ ≡ s₁ xor x₂
       → T ≡ take 0 S ++ (b₁ ++ drop 16 S) → S' ≡ take 16 T ++ (b₂ ++ drop 32 T)
       → Two opens K S r S' (record { done = r.done + 1 + 1; offset = o₂; sum = s₂ })
   unfolding block_at next_offset
-  two_made {o₁ = o₁} {b₁ = b₁} {b₂} {s₁ = s₁} {T = T} S r h h₁ ea₁ ea₂ eo₁ eo₂ eb₁ eb₂ ex₁ ex₂ es₁ es₂ eT et =
+  two_made {o₁ = o₁} {b₁ = b₁} {b₂} {s₁ = s₁} {T = T} S r h h₁ ea₁ ea₂ eo₁ eo₂ eb₁ eb₂ ep₁ ep₂ es₁ es₂ eT et =
+      let ex₁ = ep₁ ∙ plain_summed opens K _ _ eb₁ in
+      let ex₂ = ep₂ ∙ plain_summed opens K _ _ eb₂ in
       let r₁ : Run = record { done = r.done + 1; offset = o₁; sum = s₁ } in
       let e₁ : r₁ ≡ after (summed opens K) K (block_at S 0) r = after_made (summed opens K) K (block_at S 0) r eo₁ (ex₁ ∙ ap (summed opens K o₁) ea₁) es₁ in
       let first : b₁ ≡ turned opens K (next_offset K r) (block_at S 0) = eb₁ ∙ ap₂ (turned opens K) eo₁ ea₁ in
@@ -68,13 +76,6 @@ module _ (opens : Bool) (K : Key) where
             ∙ ap₂ (λ (x y : List ℕ). x ++ y) first (second ∙ ap (λ (z : Run). turned opens K (next_offset K z) (block_at S 1)) e₁);
         half = ap length (sym first) ∙ h₁;
       }
-
--- by the way that a text goes
-pub one_either : {opens way : Bool} {K : Key} {S S' : List ℕ} {r r' : Run} → opens ≡ way → One way K S r S' r' → One opens K S r S' r'
-one_either {K = K} {S} {S'} {r} {r'} e = subst⁻¹ (λ (b : Bool). One b K S r S' r') e
-
-pub two_either : {opens way : Bool} {K : Key} {S S' : List ℕ} {r r' : Run} → opens ≡ way → Two way K S r S' r' → Two opens K S r S' r'
-two_either {K = K} {S} {S'} {r} {r'} e = subst⁻¹ (λ (b : Bool). Two b K S r S' r') e
 
 -- a block of associated data
 pub hash_made : {o t x s : List ℕ} (K : Key) (b : List ℕ) (r : Run) → o ≡ r.offset xor K.L (ntz (r.done + 1)) → t ≡ b xor o → x ≡ K.ENCIPHER t
@@ -92,12 +93,14 @@ last_made {m = m} K P S r eo ed es em et = record {
   text = et ∙ sym (xor_take S m) ∙ ap (λ (x : List ℕ). S xor take (length S) x) (em ∙ ap K.ENCIPHER eo);
 }
 
--- and where it is opened, P is what the part becomes
-pub last_opened : {o d s m S' : List ℕ} (K : Key) (S : List ℕ) (r : Run) → o ≡ r.offset xor K.L-* → d ≡ padded S' → s ≡ r.sum xor d
-    → m ≡ K.ENCIPHER o → S' ≡ S xor m → Last K (last_text K r.offset S) S r S' (record { done = r.done; offset = o; sum = s })
-last_opened K S r eo ed es em et =
-    let sealed = last_made K _ S r eo ed es em et in
-    last_made K (last_text K r.offset S) S r eo (ed ∙ ap padded sealed.text) es em et
+-- whichever way it goes: b is the part padded as it stood, d as it stands, x what the checksum takes
+pub last_either : {o b d x s m S' : List ℕ} (opens : Bool) (K : Key) (S : List ℕ) (r : Run) → b ≡ padded S → o ≡ r.offset xor K.L-* → d ≡ padded S'
+    → x ≡ cond opens d b → s ≡ r.sum xor x → m ≡ K.ENCIPHER o → S' ≡ S xor m
+    → Last K (last_plain opens K r.offset S) S r S' (record { done = r.done; offset = o; sum = s })
+last_either false K S r eb eo ed ex es em et = last_made K S S r eo (ex ∙ eb) es em et
+last_either true K S r eb eo ed ex es em et =
+    let opened = last_made K _ S r eo (ex ∙ ed) es em et in
+    last_made K (last_text K r.offset S) S r eo (ex ∙ ed ∙ ap padded opened.text) es em et
 
 -- a last part of the associated data
 pub last_hash_some : (K : Key) (O s S : List ℕ) → 0 < length S → last_hash K O s S ≡ s xor K.ENCIPHER (padded S xor (O xor K.L-*))

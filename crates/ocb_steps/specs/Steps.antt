@@ -2,14 +2,9 @@
 use Rattle.std.specs.Prelude.{◌≡◌, Bool, true, false, List, ◌++◌, ℕ, ◌+◌, length}
 use Rattle.standards.specs.Strings.{◌xor◌}
 use Rattle.standards.specs.Rfc7253.{Key, ntz, block_at, seal_block, open_block, plain_block, padded, last_text}
-use Rattle.aes.specs.Cipher.{EnciphersWith, DeciphersWith}
 use Rattle.ocb_steps.specs.declared.Run.{Run}
 
 -- ---- Sealing enciphers whole blocks, opening deciphers them
-
-abbrev pub TablesTo : Bool → List ℕ → Type 0
-TablesTo false t = EnciphersWith t
-TablesTo true t = DeciphersWith t
 
 -- what a block becomes under its offset
 abbrev pub turned : Bool → Key → List ℕ → List ℕ → List ℕ
@@ -42,6 +37,11 @@ pub record Two (opens : Bool) (K : Key) (S : List ℕ) (r : Run) (S' : List ℕ)
   pub half : length (turned opens K (next_offset K r) (block_at S 0)) ≡ 16
 
 -- ---- The last part, of 1 to 15 bytes, whose plaintext is P
+
+-- it is what stands there before it is sealed, or once it is opened
+abbrev pub last_plain : Bool → Key → List ℕ → List ℕ → List ℕ
+last_plain false K O S = S
+last_plain true K O S = last_text K O S
 
 pub record Last (K : Key) (P S : List ℕ) (r : Run) (S' : List ℕ) (r' : Run) : Type 0 where
   pub run : r' ≡ record { done = r.done; offset = r.offset xor K.L-*; sum = r.sum xor padded P }

@@ -17,9 +17,9 @@ use Rattle.ocb_steps.specs.declared.Run.{Run}
 use Rattle.ocb_steps.specs.Steps.{turned, summed, next_offset, after, One, Two}
 use Rattle.ocb_walk.specs.Walked.{run_at, Walked}
 
--- the text T when the k places that were lent from block i on have become y
+-- the text T when the k places that were lent from place p on have become y
 abbrev pub written : List ℕ → ℕ → ℕ → List ℕ → List ℕ
-written T i k y = take (i * 16) T ++ (y ++ drop k (drop (i * 16) T))
+written T p k y = take p T ++ (y ++ drop k (drop p T))
 
 -- ---- the definitions at i + 1, as the code counts
 
@@ -98,26 +98,32 @@ module _ (opens : Bool) (K : Key) (O S : List ℕ) where
         size = ap length b ∙ length-append (made i) y ∙ omega (arith, D.size);
       }
 
-  -- k places are lent from block i on, and become y
-  module _ {T : List ℕ} {r : Run} (i k : ℕ) (D : Done opens K O S T r i) (y : List ℕ) (kept : length y ≡ length (take k (drop (i * 16) T))) where
-    behind : (j : ℕ) → i * 16 + k ≡ j → drop k (drop (i * 16) T) ≡ drop j S
-    behind j e = ap (drop k) (done_drop i D) ∙ drop-drop k (i * 16) S ∙ ap (λ (x : ℕ). drop x S) e
+  -- k places are lent from block i on, at place p, and become y
+  module _ {T : List ℕ} {r : Run} (i p k : ℕ) (place : p ≡ i * 16) (D : Done opens K O S T r i) (y : List ℕ) (kept : length y ≡ length (take k (drop p T))) where
+    front : take p T ≡ made i
+    front = ap (λ (x : ℕ). take x T) place ∙ done_take i D
 
-    pub done_one : {r' : Run} → i * 16 + 16 ≤ length S → k ≡ 16 → One opens K (take k (drop (i * 16) T)) r y r' → Done opens K O S (written T i k y) r' (i + 1)
+    onward : drop p T ≡ drop (i * 16) S
+    onward = ap (λ (x : ℕ). drop x T) place ∙ done_drop i D
+
+    behind : (j : ℕ) → i * 16 + k ≡ j → drop k (drop p T) ≡ drop j S
+    behind j e = ap (drop k) onward ∙ drop-drop k (i * 16) S ∙ ap (λ (x : ℕ). drop x S) e
+
+    pub done_one : {r' : Run} → i * 16 + 16 ≤ length S → k ≡ 16 → One opens K (take k (drop p T)) r y r' → Done opens K O S (written T p k y) r' (i + 1)
     unfolding block_at
     done_one {r'} h ek one =
-        let lent : take k (drop (i * 16) T) ≡ block_at S i = ap₂ (λ (x : ℕ) (l : List ℕ). take x l) ek (done_drop i D) in
+        let lent : take k (drop p T) ≡ block_at S i = ap₂ (λ (x : ℕ) (l : List ℕ). take x l) ek onward in
         let size : length y ≡ 16 = kept ∙ ap length lent ∙ length-take-le 16 (drop (i * 16) S) (omega (arith, length-drop (i * 16) S)) in
         subst (λ (x : List ℕ). Done opens K O S x r' (i + 1))
-        (sym (ap₂ (λ (x z : List ℕ). x ++ (y ++ z)) (done_take i D) (behind ((i + 1) * 16) (omega arith))))
+        (sym (ap₂ (λ (x z : List ℕ). x ++ (y ++ z)) front (behind ((i + 1) * 16) (omega arith))))
         (more i D size (one.text ∙ ap (next r) lent) (one.run ∙ ap (λ (b : List ℕ). after (summed opens K) K b r) lent))
 
     -- a pair is one block more and one block more: c and d are what its halves become, r₁ is the run between them
-    pub done_two : {r' : Run} → i * 16 + 32 ≤ length S → k ≡ 32 → Two opens K (take k (drop (i * 16) T)) r y r' → Done opens K O S (written T i k y) r' (i + 2)
+    pub done_two : {r' : Run} → i * 16 + 32 ≤ length S → k ≡ 32 → Two opens K (take k (drop p T)) r y r' → Done opens K O S (written T p k y) r' (i + 2)
     unfolding block_at
     done_two {r'} h ek two =
-        let pair : List ℕ = take k (drop (i * 16) T) in
-        let lent : pair ≡ take (16 + 16) (drop (i * 16) S) = ap₂ (λ (x : ℕ) (l : List ℕ). take x l) ek (done_drop i D) in
+        let pair : List ℕ = take k (drop p T) in
+        let lent : pair ≡ take (16 + 16) (drop (i * 16) S) = ap₂ (λ (x : ℕ) (l : List ℕ). take x l) ek onward in
         let size : length y ≡ 32 = kept ∙ ap length lent ∙ length-take-le 32 (drop (i * 16) S) (omega (arith, length-drop (i * 16) S)) in
         let b₁ : block_at pair 0 ≡ block_at S i = ap (take 16) lent ∙ take-take 16 32 (drop (i * 16) S) (omega arith) in
         let next_place : i * 16 + 16 ≡ (i + 1) * 16 = omega arith in
@@ -133,10 +139,10 @@ module _ (opens : Bool) (K : Key) (O S : List ℕ) where
         let D₁ = more i D two.half (ap (next r) b₁) (ap (λ (b : List ℕ). after (summed opens K) K b r) b₁) in
         let D₂ = more (i + 1) D₁ (omega (arith, two.half)) (ap (next r₁) b₂) (two.run ∙ ap (λ (b : List ℕ). after (summed opens K) K b r₁) b₂) in
         let end : List ℕ = drop ((i + 1 + 1) * 16) S in
-        let joined : made (i + 1) ++ (d ++ end) ≡ written T i k y =
+        let joined : made (i + 1) ++ (d ++ end) ≡ written T p k y =
         ap (λ (x : List ℕ). x ++ (d ++ end)) (grown i D (ap (next r) b₁))
         ∙ append_assoc (made i) c (d ++ end)
-        ∙ ap₂ (λ (x z : List ℕ). x ++ z) (sym (done_take i D))
+        ∙ ap₂ (λ (x z : List ℕ). x ++ z) (sym front)
         (sym (append_assoc c d end) ∙ ap₂ (λ (x z : List ℕ). x ++ z) (sym two.text) (sym (behind ((i + 1 + 1) * 16) (omega arith)))) in
         subst₂ (λ (x : List ℕ) (j : ℕ). Done opens K O S x r' j) joined (omega arith) D₂
 
@@ -147,12 +153,12 @@ pub record Going (opens : Bool) (K : Key) (O S T : List ℕ) (r : Run) (i : ℕ)
   pub long : length T ≡ length S
   pub done : Done opens K O S T r i
 
--- b blocks that are lent from block i on lie in the text, and the L values up to theirs in the table
-pub lent_blocks : {m : ℕ} (b j i : ℕ) (S T : List ℕ) → Fits m (length S) → length T ≡ length S → 0 < b → i + b ≤ length S / 16 → j ≡ i + b
-    → InTable m j × (length (take (i * 16 + b * 16 - i * 16) (drop (i * 16) T)) ≡ b * 16)
-lent_blocks b j i S T f e p l ej = (
+-- b blocks that are lent from block i on, at place p, lie in the text, and the L values up to theirs in the table
+pub lent_blocks : {m : ℕ} (b j i p : ℕ) (S T : List ℕ) → Fits m (length S) → length T ≡ length S → 0 < b → i + b ≤ length S / 16 → j ≡ i + b → p ≡ i * 16
+    → InTable m j × (length (take (p + b * 16 - p) (drop p T)) ≡ b * 16)
+lent_blocks b j i p S T f e some l ej ep = (
   fits_reach f j (omega arith) (omega arith),
-  length-take-le (i * 16 + b * 16 - i * 16) (drop (i * 16) T) (omega (arith, length-drop (i * 16) T)) ∙ omega arith,
+  length-take-le (p + b * 16 - p) (drop p T) (omega (arith, length-drop p T)) ∙ omega arith,
 )
 
 pub run_done : {opens : Bool} {K : Key} {O S T : List ℕ} {r : Run} {i : ℕ} → Done opens K O S T r i → r.done ≡ i

@@ -1,6 +1,6 @@
 -- What the walks leave: of a text S from the first offset O on, the bytes S' and the run r'.
-use Rattle.std.specs.Prelude.{◌≡◌, Bool, List, ◌++◌, ℕ}
-use Rattle.standards.specs.Rfc7253.{Key, wholes, rest, Offset, Blocks, Sum, text, end_offset}
+use Rattle.std.specs.Prelude.{◌≡◌, Bool, true, false, List, ◌++◌, ℕ}
+use Rattle.standards.specs.Rfc7253.{Key, wholes, rest, Offset, Blocks, Sum, text, end_offset, seal_sum, open_sum}
 use Rattle.ocb_steps.specs.declared.Run.{Run}
 use Rattle.ocb_steps.specs.Steps.{turned, summed}
 
@@ -12,6 +12,11 @@ run_at g K O S i = record { done = i; offset = Offset K O i; sum = Sum g K O S i
 pub record Walked (opens : Bool) (K : Key) (O S S' : List ℕ) (r' : Run) : Type 0 where
   pub run : r' ≡ run_at (summed opens K) K O S (wholes S)
   pub text : S' ≡ Blocks (turned opens K) K O S (wholes S) ++ rest S
+
+-- the checksum that goes into the tag
+abbrev pub checksum : Bool → Key → List ℕ → List ℕ → List ℕ
+checksum false = seal_sum
+checksum true = open_sum
 
 -- the whole text is: f makes the whole blocks, sum gives the checksum that goes into the tag
 pub record Ended (f : Key → List ℕ → List ℕ → List ℕ) (sum : Key → List ℕ → List ℕ → List ℕ) (K : Key) (O S S' : List ℕ) (r' : Run) : Type 0 where

@@ -1,34 +1,21 @@
 // The tag: made, compared and written.
 ghost use Rattle.std.specs.Prelude.{◌≡◌, ◌≤◌, length, take};
-ghost use Rattle.sizes.specs.Sizes.{Rounds};
 ghost use Rattle.standards.specs.Rfc7253.{Tag, same};
-ghost use Rattle.aes.specs.Cipher.{EnciphersWith};
 ghost use Rattle.ocb_numbers.specs.Numbers.{Fits};
-ghost use Rattle.ocb_variables.specs.Held.{lent_key};
+ghost use Rattle.ocb_variables.specs.Held.{key_of};
 
 use crate::hash;
-use aes::EncipherTables;
 use ocb_steps::Run;
-use ocb_variables::KeyValues;
-use sizes::{Block, RoundKeys, Table};
+use ocb_variables::LentKey;
+use sizes::Block;
 
 // Tag = ENCIPHER(K, Checksum xor Offset xor L_$) xor HASH(K, A), all sixteen bytes of it.
-pub fn compute_tag(
-    tables: &EncipherTables,
-    rk: &RoundKeys,
-    table: &Table,
-    v: KeyValues,
-    r: Run,
-    ad: &[u8],
-) -> Block
-    requires { (EnciphersWith tables.now) × (Fits v.m (length ad.now)) × (Rounds v.rounds) }
-    ensures { result ≡ Tag (lent_key rk.now table.now v) r.sum r.offset ad.now }
+pub fn compute_tag(k: &LentKey<'_>, r: Run, ad: &[u8]) -> Block
+    requires { Fits k.now.m (length ad.now) }
+    ensures { result ≡ Tag (key_of k.now) r.sum r.offset ad.now }
 {
-    let o = r.offset;
-    let s = r.sum;
-    let dollar = v.dollar;
-    let x = aes::encipher_with(tables, rk, v.rounds, block::xor(block::xor(s, o), dollar));
-    block::xor(x, hash::hash(tables, rk, table, v, ad))
+    let input = block::xor(block::xor(r.sum, r.offset), k.dollar);
+    block::xor(k.cipher.encipher(input), hash::hash(k, ad))
 }
 
 // Whether the bytes given are the front of the computed tag. Every byte given is looked at.
@@ -36,12 +23,9 @@ pub fn tags_equal(computed: Block, given: &[u8]) -> bool
     requires { length given.now ≤ 16 }
     ensures { result ≡ same (take (length given.now) computed) given.now }
 {
-    let n = given.len();
-    let mut difference: u8 = 0;
-    let mut i = 0;
-    while i < n {
-        difference = difference | (computed[i] ^ given[i]);
-        i += 1;
+    let mut difference = 0;
+    for (i, byte) in given.iter().enumerate() {
+        difference |= computed[i] ^ byte;
     }
     difference == 0
 }
@@ -52,6 +36,5 @@ pub fn write_tag(computed: Block, place: &mut [u8])
     ensures { place.new ≡ take (length place.old) computed }
 {
     let n = place.len();
-    let front = &computed[..n];
-    block::copy(front, place);
+    place.copy_from_slice(&computed[..n]);
 }

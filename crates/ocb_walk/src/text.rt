@@ -1,92 +1,44 @@
-// A whole text, in place. The walk over its whole blocks is one for both ways; the last part is sealed or opened.
+// A whole text, in place, either way.
 ghost use Rattle.std.specs.Prelude.{length};
-ghost use Rattle.sizes.specs.Sizes.{Rounds};
-ghost use Rattle.standards.specs.Rfc7253.{seal_block, open_block, seal_sum, open_sum};
-ghost use Rattle.aes.specs.Cipher.{EnciphersWith, DeciphersWith};
 ghost use Rattle.ocb_numbers.specs.Numbers.{Fits};
-ghost use Rattle.ocb_variables.specs.Held.{lent_key};
-ghost use Rattle.ocb_steps.specs.Steps.{TablesTo};
-ghost use Rattle.ocb_walk.specs.Walked.{Walked, Ended};
+ghost use Rattle.ocb_variables.specs.Held.{key_of};
+ghost use Rattle.ocb_steps.specs.Steps.{turned};
+ghost use Rattle.ocb_walk.specs.Walked.{Walked, Ended, checksum};
 
-use aes::{DecipherTables, EncipherTables, Tables};
-use ocb_steps::{Run, either, open, seal};
-use ocb_variables::KeyValues;
-use sizes::{Block, RoundKeys, Table};
+use ocb_steps::Run;
+use ocb_steps::way::Way;
+use ocb_variables::LentKey;
+use sizes::Block;
 
 // Two blocks at a time, and the one that may be left, from the first offset o on. A last part stays as it is.
-pub fn walk(
-    opens: bool,
-    tables: &Tables,
-    rk: &RoundKeys,
-    table: &Table,
-    v: KeyValues,
-    o: Block,
-    s: &mut [u8],
-) -> Run
-    requires { (TablesTo opens tables.now) × (Fits v.m (length s.old)) × (Rounds v.rounds) }
-    ensures { Walked opens (lent_key rk.now table.now v) o s.old s.new result }
+pub fn walk<W: Way>(k: &LentKey<'_>, o: Block, s: &mut [u8]) -> Run
+    requires { Fits k.now.m (length s.old) }
+    ensures { Walked W.opens (key_of k.now) o s.old s.new result }
 {
-    let n = s.len() / 16;
-    let zero = [0u8; 16];
-    let mut r = Run {
-        done: 0,
-        offset: o,
-        sum: zero,
-    };
-    let mut i = 0;
-    while i + 2 <= n {
-        let a = i * 16;
+    let pairs = s.len() / 32;
+    let mut r = Run::start(o);
+    for i in 0..pairs {
+        let a = i * 32;
         let e = a + 32;
-        r = either::wide(opens, tables, rk, table, v, &mut s[a..e], r);
-        i += 2;
+        r = r.pair::<W>(k, &mut s[a..e]);
     }
-    if i < n {
-        let a = i * 16;
-        let e = a + 16;
-        r = either::one(opens, tables, rk, table, v, &mut s[a..e], r);
-    }
-    r
-}
-
-// Seals a text, from the first offset o to the last one and the checksum.
-pub fn encrypt_text(
-    tables: &EncipherTables,
-    rk: &RoundKeys,
-    table: &Table,
-    v: KeyValues,
-    o: Block,
-    s: &mut [u8],
-) -> Run
-    requires { (EnciphersWith tables.now) × (Fits v.m (length s.old)) × (Rounds v.rounds) }
-    ensures { Ended seal_block seal_sum (lent_key rk.now table.now v) o s.old s.new result }
-{
-    let len = s.len();
-    let whole = len / 16 * 16;
-    let r = walk(false, tables, rk, table, v, o, s);
-    if whole < len {
-        return seal::encrypt_last(tables, rk, table, v, &mut s[whole..len], r);
+    let a = pairs * 32;
+    let e = a + 16;
+    if e <= s.len() {
+        r = r.one::<W>(k, &mut s[a..e]);
     }
     r
 }
 
-// Opens a text.
-pub fn decrypt_text(
-    forward: &EncipherTables,
-    backward: &DecipherTables,
-    rk: &RoundKeys,
-    table: &Table,
-    v: KeyValues,
-    o: Block,
-    s: &mut [u8],
-) -> Run
-    requires { (EnciphersWith forward.now) × (DeciphersWith backward.now) × (Fits v.m (length s.old)) × (Rounds v.rounds) }
-    ensures { Ended open_block open_sum (lent_key rk.now table.now v) o s.old s.new result }
+// A whole text, from the first offset o to the last one and the checksum.
+pub fn text<W: Way>(k: &LentKey<'_>, o: Block, s: &mut [u8]) -> Run
+    requires { Fits k.now.m (length s.old) }
+    ensures { Ended (turned W.opens) (checksum W.opens) (key_of k.now) o s.old s.new result }
 {
-    let len = s.len();
-    let whole = len / 16 * 16;
-    let r = walk(true, backward, rk, table, v, o, s);
-    if whole < len {
-        return open::decrypt_last(forward, rk, table, v, &mut s[whole..len], r);
+    let whole = s.len() / 16 * 16;
+    let r = walk::<W>(k, o, s);
+    if whole < s.len() {
+        return r.last::<W>(k, &mut s[whole..]);
     }
     r
 }

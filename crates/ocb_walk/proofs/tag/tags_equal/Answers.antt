@@ -14,18 +14,14 @@ use Rattle.ocb_walk.proofs.tag.tags_equal.Goals as goal
 
 pub loop-i-init : goal.loop-i-init
 unfolding same
-loop-i-init c = (search rules, refl, search rules, search rules, refl)
+loop-i-init c = refl
 
 pub loop-i-preserved : goal.loop-i-preserved
 unfolding ◌⊕◌
 loop-i-preserved c =
-    let l = c.loop-i in (
-      omega arith,
-      refl,
-      l.invariant.2,
-      l.invariant.3,
-      same_turn c.args.computed c.args.given.now l.i l.difference (omega arith) (omega arith) l.invariant.4,
-    )
+    let l = c.loop-i in
+    let long : length c.args.computed ≡ 16 = search rules in
+    same_turn c.args.computed c.args.given.now l.i l.difference (omega arith) (omega arith) l.invariant
 
 pub returns : goal.returns
 returns c =
@@ -33,4 +29,4 @@ returns c =
     let k : List ℕ = c.args.computed in
     let t : List ℕ = c.args.given.now in
     let e : l.i ≡ length t = omega arith in
-    l.invariant.4 ∙ ap (λ (n : ℕ). same (take n k) (take n t)) e ∙ ap (same (take (length t) k)) (take-length t)
+    l.invariant ∙ ap (λ (n : ℕ). same (take n k) (take n t)) e ∙ ap (same (take (length t) k)) (take-length t)
