@@ -3,14 +3,14 @@
 #![tactic(auto)]
 
 ghost use Rattle.std.specs.Prelude.{◌≡◌, length};
-ghost use Rattle.sizes.specs.Sizes.{Rounds};
 ghost use Rattle.ocb_numbers.specs.Numbers.{InRange};
-ghost use Rattle.ocb_variables.specs.Held.{lent_key};
+ghost use Rattle.ocb_variables.specs.Held.{key_of};
 ghost use Rattle.ocb.specs.Answers.{zero_state, set_up, sealed, opened, Leaves};
 ghost use Rattle.ocb.specs.Inner.{Encrypted, Decrypted};
 
-use ocb_variables::{KeyValues, State};
-use sizes::{ROUND_KEY_BYTES, RoundKeys, TABLE_BYTES, Table};
+use ocb_steps::way::{Opening, Sealing};
+use ocb_variables::{KeyValues, LentKey, State};
+use sizes::{ROUND_KEY_BYTES, TABLE_BYTES};
 
 // What set_up gives: its number, and the state to seal and open with.
 #[derive(Clone, Copy)]
@@ -58,55 +58,33 @@ pub fn set_up(key: &[u8], m: usize) -> SetUp
             state: zeros,
         };
     }
-    let tables = aes::encipher_tables();
     let rounds = aes::rounds_for(key.len());
-    let state = ocb_variables::key_dependent_variables(&tables, aes::expand_key(key), rounds, m);
+    let state = ocb_variables::key_dependent_variables(aes::expand_key(key), rounds, m);
     SetUp {
         number: 0,
         state: state,
     }
 }
 
-// Seals a text whose sizes are in range, with the parts of a state lent.
-fn encrypt(
-    rk: &RoundKeys,
-    table: &Table,
-    v: KeyValues,
-    nonce: &[u8],
-    ad: &[u8],
-    text: &mut [u8],
-    tag: &mut [u8],
-)
-    requires { (Rounds v.rounds) × (InRange v.m (length nonce.now) (length ad.now) (length text.old) (length tag.old)) }
-    ensures { Encrypted (lent_key rk.now table.now v)
-        nonce.now ad.now text.old tag.old text.new tag.new }
+// Seals a text whose sizes are in range, under a lent key.
+fn encrypt(k: &LentKey<'_>, nonce: &[u8], ad: &[u8], text: &mut [u8], tag: &mut [u8])
+    requires { InRange k.now.m (length nonce.now) (length ad.now) (length text.old) (length tag.old) }
+    ensures { Encrypted (key_of k.now) nonce.now ad.now text.old tag.old text.new tag.new }
 {
-    let tables = aes::encipher_tables();
-    let offset = ocb_variables::initial_offset(&tables, rk, v.rounds, nonce, tag.len());
-    let run = ocb_walk::text::encrypt_text(&tables, rk, table, v, offset, text);
-    let computed = ocb_walk::tag::compute_tag(&tables, rk, table, v, run, ad);
+    let offset = ocb_variables::initial_offset(&k.cipher, nonce, tag.len());
+    let run = ocb_walk::text::text::<Sealing>(k, offset, text);
+    let computed = ocb_walk::tag::compute_tag(k, run, ad);
     ocb_walk::tag::write_tag(computed, tag);
 }
 
-// Opens a text whose sizes are in range, with the parts of a state lent, and says whether the tag is the text's.
-fn decrypt(
-    rk: &RoundKeys,
-    table: &Table,
-    v: KeyValues,
-    nonce: &[u8],
-    ad: &[u8],
-    text: &mut [u8],
-    tag: &[u8],
-) -> bool
-    requires { (Rounds v.rounds) × (InRange v.m (length nonce.now) (length ad.now) (length text.old) (length tag.now)) }
-    ensures { Decrypted (lent_key rk.now table.now v)
-        nonce.now ad.now text.old tag.now text.new result }
+// Opens a text whose sizes are in range, under a lent key, and says whether the tag is the text's.
+fn decrypt(k: &LentKey<'_>, nonce: &[u8], ad: &[u8], text: &mut [u8], tag: &[u8]) -> bool
+    requires { InRange k.now.m (length nonce.now) (length ad.now) (length text.old) (length tag.now) }
+    ensures { Decrypted (key_of k.now) nonce.now ad.now text.old tag.now text.new result }
 {
-    let forward = aes::encipher_tables();
-    let backward = aes::decipher_tables();
-    let offset = ocb_variables::initial_offset(&forward, rk, v.rounds, nonce, tag.len());
-    let run = ocb_walk::text::decrypt_text(&forward, &backward, rk, table, v, offset, text);
-    let computed = ocb_walk::tag::compute_tag(&forward, rk, table, v, run, ad);
+    let offset = ocb_variables::initial_offset(&k.cipher, nonce, tag.len());
+    let run = ocb_walk::text::text::<Opening>(k, offset, text);
+    let computed = ocb_walk::tag::compute_tag(k, run, ad);
     ocb_walk::tag::tags_equal(computed, tag)
 }
 
@@ -124,9 +102,7 @@ pub fn seal(s: State, nonce: &[u8], ad: &[u8], text: &mut [u8], tag: &mut [u8]) 
         };
     }
     let calls = ocb_numbers::calls(ad.len(), text.len());
-    let rk = s.round_keys;
-    let table = s.table;
-    encrypt(&rk, &table, v, nonce, ad, text, tag);
+    encrypt(&s.lend(), nonce, ad, text, tag);
     Answer {
         number: 0,
         calls: calls,
@@ -147,9 +123,7 @@ pub fn open(s: State, nonce: &[u8], ad: &[u8], text: &mut [u8], tag: &[u8]) -> A
         };
     }
     let calls = ocb_numbers::calls(ad.len(), text.len());
-    let rk = s.round_keys;
-    let table = s.table;
-    if decrypt(&rk, &table, v, nonce, ad, text, tag) {
+    if decrypt(&s.lend(), nonce, ad, text, tag) {
         return Answer {
             number: 0,
             calls: calls,

@@ -1,8 +1,13 @@
 -- `open` meets its contract: the sizes are refused as the list says, or the inner function does the work and its verdict is followed. Assumes nothing.
-use lib.ListN.{get_or}
+use mathlib.Core.Path.{subst, subst⁻¹}
+use Prim.Native.Nat.{ℕ}
+use lib.ListN.{length, get_or}
 use mir.Syntax.{w8}
 use mir.Val.{Fits}
 use Rattle.standards.specs.Strings.{Bytes}
+use Rattle.standards.specs.Rfc7253.{Key}
+use Rattle.ocb_numbers.specs.Numbers.{InRange}
+use Rattle.ocb.specs.Inner.{Decrypted}
 use borrow.Author.Rules.{rules}
 use Rattle.ocb.proofs.Outcomes.{open_refused_lem, sizes, open_done, open_cleared}
 use Rattle.ocb.proofs.open.Goals as goal
@@ -12,23 +17,31 @@ returns-then-number-ne0 c =
     let a = c.args in
     open_refused_lem a.s a.nonce.now a.ad.now a.text.now a.tag.now c.refuse-number.ensures c.if-number-ne0.true
 
+pub lend-requires : goal.lend-requires
+lend-requires c =
+    let a = c.args in
+    (sizes a.s a.nonce.now a.ad.now a.text.now a.tag.now c.refuse-number.ensures c.if-number-ne0.false).0
+
 pub decrypt-requires : goal.decrypt-requires
 decrypt-requires c =
     let a = c.args in
-    sizes a.s a.nonce.now a.ad.now a.text.now a.tag.now c.refuse-number.ensures c.if-number-ne0.false
+    let admitted = sizes a.s a.nonce.now a.ad.now a.text.now a.tag.now c.refuse-number.ensures c.if-number-ne0.false in
+    subst⁻¹ (λ (m : ℕ). InRange m (length a.nonce.now) (length a.ad.now) (length a.text.now) (length a.tag.now)) c.lend.ensures.m admitted.1
 
 pub returns-then-decrypt : goal.returns-then-decrypt
 returns-then-decrypt c =
     let a = c.args in
     -- a state's round keys are bytes, by their type
     let keys : Bytes a.s.round_keys = λ i. (let f : Fits w8 (get_or a.s.round_keys i 0) = search rules in f.fits) in
+    let done = subst (λ (K : Key). Decrypted K a.nonce.now a.ad.now a.text.now a.tag.now c.decrypt.new.text c.decrypt.result) c.lend.ensures.key c.decrypt.ensures in
     open_done a.s a.nonce.now a.ad.now a.text.now a.tag.now c.refuse-number.ensures c.if-number-ne0.false keys
-    (λ i. (c.type_inv.nonce i).fits) c.calls-calls.ensures c.decrypt.ensures c.if-decrypt.true
+    (λ i. (c.type_inv.nonce i).fits) c.calls-calls.ensures done c.if-decrypt.true
 
 pub returns : goal.returns
 returns c =
     let a = c.args in
     let keys : Bytes a.s.round_keys = λ i. (let f : Fits w8 (get_or a.s.round_keys i 0) = search rules in f.fits) in
+    let done = subst (λ (K : Key). Decrypted K a.nonce.now a.ad.now a.text.now a.tag.now c.decrypt.new.text c.decrypt.result) c.lend.ensures.key c.decrypt.ensures in
     open_cleared a.s a.nonce.now a.ad.now a.text.now a.tag.now c.refuse-number.ensures c.if-number-ne0.false keys
-    (λ i. (c.type_inv.nonce i).fits) c.calls-calls.ensures c.decrypt.ensures c.if-decrypt.false
+    (λ i. (c.type_inv.nonce i).fits) c.calls-calls.ensures done c.if-decrypt.false
     c.decrypt.auto.text c.clear.ensures

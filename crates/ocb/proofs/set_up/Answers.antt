@@ -52,4 +52,4 @@ pub key_dependent_variables-state-requires : goal.key_dependent_variables-state-
 key_dependent_variables-state-requires c =
     let a = c.args in
     let admitted = set_up_sizes (length a.key.now) a.m (sym c.refuse_set_up-number.ensures ∙ c.if-number-ne0.false) in
-    (c.encipher_tables-tables.ensures, subst⁻¹ Rounds c.rounds_for-rounds.ensures (rounds_for_lem admitted.0), admitted.1.to)
+    (subst⁻¹ Rounds c.rounds_for-rounds.ensures (rounds_for_lem admitted.0), admitted.1.to)
