@@ -25,7 +25,7 @@ fn expand(key: Key) -> Expanded
 {
     let bytes = key.bytes;
     let length = key.length;
-    if ocb_numbers::refuse_set_up(length, 1) != 0 {
+    if ocb_numbers::refuse_set_up(length, 1).is_err() {
         let zeros = [0u8; ROUND_KEY_BYTES];
         return Expanded {
             keys: zeros,

@@ -1,6 +1,6 @@
 -- From what the inner functions leave to the outcome that the entry points promise, over plain values: the first offset in bytes is the RFC's in bits, and
 -- ciphertext and tag apart are OCB-ENCRYPT's whole. Assumes nothing.
-use mathlib.Core.Path.{◌≡◌, refl, sym, ap, ap₂, subst, ◌∙◌}
+use mathlib.Core.Path.{◌≡◌, refl, sym, ap, ap₂, subst, subst⁻¹, ◌∙◌}
 use mathlib.Core.Bool.{Bool, true, false}
 use mathlib.Core.List.{List, ◌++◌}
 use Prim.Native.Nat.{ℕ, zero, suc}
@@ -20,11 +20,11 @@ use Rattle.ocb_variables.specs.Held.{held}
 use Rattle.ocb_steps.specs.declared.Run.{Run}
 use Rattle.ocb_walk.specs.Walked.{Ended}
 use Rattle.ocb.specs.declared.Answer.{Answer}
-use Rattle.ocb_numbers.specs.Numbers.{refusal, count}
+use Rattle.ocb_numbers.specs.declared.Refusal.{Refusal}
+use Rattle.ocb_numbers.specs.Numbers.{number_of, refusal, count, InRange}
 use Rattle.ocb.specs.Answers.{Outcome, untouched, seal_refused, open_refused, unless, encrypted, verdict, decrypted, sealed, opened, Leaves}
-use Rattle.ocb_numbers.specs.Numbers.{InRange}
 use Rattle.ocb.specs.Inner.{Encrypted, Decrypted}
-use Rattle.ocb_numbers.proofs.Refusals.{in_range}
+use Rattle.ocb_numbers.proofs.Refusals.{numbered_from_1, in_range}
 
 -- ---- the inner functions: o is the first offset, r the run behind the last block, full the whole tag
 
@@ -87,31 +87,36 @@ by_number {n} {k} o S T e h = subst (λ (i : ℕ). Leaves (unless i (untouched S
 pub by_none : {n k : ℕ} {o : Outcome} {r : Answer} {S' T' : List ℕ} (refused : ℕ → Outcome) → k ≡ n → k ≡ 0 → Leaves o r S' T' → Leaves (unless n refused o) r S' T'
 by_none {o = o} {r} {S'} {T'} refused e z L = subst (λ (i : ℕ). Leaves (unless i refused o) r S' T') (sym z ∙ e) L
 
-module _ (s : State) (N A S T : List ℕ) {k : ℕ} (asked : k ≡ refusal s.values.m s.values.rounds (length N) (length A) (length S) (length T)) where
-  pub seal_refused_lem : (k ≡ 0 → ⊥) → Leaves (sealed s N A S T) (record { number = k; calls = 0 }) S T
+module _ (s : State) (N A S T : List ℕ) where
+  abbrev asked : ℕ
+  asked = refusal s.values.m s.values.rounds (length N) (length A) (length S) (length T)
+
+  pub seal_refused_lem : (e : Refusal) → number_of e ≡ asked → {r : Answer} → r ≡ record { number = number_of e; calls = 0 } → Leaves (sealed s N A S T) r S T
   unfolding sealed
-  seal_refused_lem h = by_number (encrypted (held s) N A S T) S T asked h
+  seal_refused_lem e by er =
+      subst⁻¹ (λ (r : Answer). Leaves (sealed s N A S T) r S T) er (by_number (encrypted (held s) N A S T) S T by (numbered_from_1 e))
 
-  pub open_refused_lem : (k ≡ 0 → ⊥) → Leaves (opened s N A S T) (record { number = k; calls = 0 }) S T
+  pub open_refused_lem : (e : Refusal) → number_of e ≡ asked → {r : Answer} → r ≡ record { number = number_of e; calls = 0 } → Leaves (opened s N A S T) r S T
   unfolding opened
-  open_refused_lem h = by_number (decrypted (held s) N A S T) S T asked h
+  open_refused_lem e by er =
+      subst⁻¹ (λ (r : Answer). Leaves (opened s N A S T) r S T) er (by_number (decrypted (held s) N A S T) S T by (numbered_from_1 e))
 
-  module _ (none : k ≡ 0) where
+  module _ (none : 0 ≡ asked) where
     pub sizes : Rounds s.values.rounds × InRange s.values.m (length N) (length A) (length S) (length T)
-    sizes = in_range s.values.m s.values.rounds (length N) (length A) (length S) (length T) (sym asked ∙ none)
+    sizes = in_range s.values.m s.values.rounds (length N) (length A) (length S) (length T) (sym none)
 
     module _ (key_bytes : Bytes s.round_keys) (N-bytes : Bytes N) {calls : ℕ} (count : calls ≡ count (length A) (length S)) where
       pub seal_done : {C T' : List ℕ} → Encrypted (held s) N A S T C T' → length C ≡ length S → Leaves (sealed s N A S T) (record { number = 0; calls = calls }) C T'
       unfolding sealed
       seal_done E long =
-          by_none (seal_refused S T) asked none
+          by_none (seal_refused S T) none refl
           (seal_leaves (held s) (λ b. enc_block s.values.rounds s.round_keys b key_bytes) N A S T sizes.1 N-bytes (record { number = 0; calls = calls }) E long refl count)
 
       opened_by : {P S' : List ℕ} {valid : Bool} {n : ℕ} → Decrypted (held s) N A S T P valid
           → Leaves (verdict (valid_if valid P) calls S T) (record { number = n; calls = calls }) S' T → Leaves (opened s N A S T) (record { number = n; calls = calls }) S' T
       unfolding opened
-      opened_by {n} D L =
-          by_none (open_refused S T) asked none
+      opened_by {n = n} D L =
+          by_none (open_refused S T) none refl
           (open_leaves (held s) (λ b. enc_block s.values.rounds s.round_keys b key_bytes) N A S T sizes.1 N-bytes (record { number = n; calls = calls }) D count L)
 
       pub open_done : {P : List ℕ} {valid : Bool} → Decrypted (held s) N A S T P valid → valid ≡ true → Leaves (opened s N A S T) (record { number = 0; calls = calls }) P T
@@ -122,8 +127,8 @@ module _ (s : State) (N A S T : List ℕ) {k : ℕ} (asked : k ≡ refusal s.val
 
       -- what was deciphered is cleared, all of it
       pub open_cleared : {P S' : List ℕ} {valid : Bool} → Decrypted (held s) N A S T P valid → valid ≡ false → length P ≡ length S → S' ≡ zeros (length P)
-          → Leaves (opened s N A S T) (record { number = 7; calls = calls }) S' T
-      open_cleared {P} {S'} D e long z =
+          → {n : ℕ} → n ≡ 7 → Leaves (opened s N A S T) (record { number = n; calls = calls }) S' T
+      open_cleared {P} {S'} D e long z {n} en =
           opened_by D
-          (subst (λ (b : Bool). Leaves (verdict (valid_if b P) calls S T) (record { number = 7; calls = calls }) S' T) (sym e)
-          (record { number = refl; calls = refl; text_left = z ∙ ap zeros long; tag_left = refl }))
+          (subst (λ (b : Bool). Leaves (verdict (valid_if b P) calls S T) (record { number = n; calls = calls }) S' T) (sym e)
+          (record { number = en; calls = refl; text_left = z ∙ ap zeros long; tag_left = refl }))

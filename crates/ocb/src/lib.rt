@@ -3,27 +3,40 @@
 #![tactic(auto)]
 
 ghost use Rattle.std.specs.Prelude.{◌≡◌, length};
-ghost use Rattle.ocb_numbers.specs.Numbers.{InRange};
+ghost use Rattle.ocb_numbers.specs.Numbers.{number_of, InRange};
 ghost use Rattle.ocb_variables.specs.Held.{key_of};
 ghost use Rattle.ocb.specs.Answers.{zero_state, set_up, sealed, opened, Leaves};
 ghost use Rattle.ocb.specs.Inner.{Encrypted, Decrypted};
 
+use ocb_numbers::Refusal;
 use ocb_steps::way::{Opening, Sealing};
 use ocb_variables::{KeyValues, LentKey, State};
 use sizes::{ROUND_KEY_BYTES, TABLE_BYTES};
 
-// What set_up gives: its number, and the state to seal and open with.
+// What set_up gives: its number, and the state to seal and open with. A number and not a Result, as C and the theorems of Demands.antt have it.
 #[derive(Clone, Copy)]
 pub struct SetUp {
     pub number: usize,
     pub state: State,
 }
 
-// What seal and open give: the number, and how many blocks went to the cipher.
+// What seal and open give: the number, and how many blocks went to the cipher. A number too: 7 comes with a count.
 #[derive(Clone, Copy)]
 pub struct Answer {
     pub number: usize,
     pub calls: usize,
+}
+
+// What a refusal of the sizes gives: nothing went to the cipher.
+impl From<Refusal> for Answer {
+    ghost from_gives = { λ r a. a ≡ record { number = number_of r; calls = 0 } };
+
+    fn from(r: Refusal) -> Answer {
+        Answer {
+            number: r.into(),
+            calls: 0,
+        }
+    }
 }
 
 // The state of a set-up that is refused: zeros, which seal and open answer with 2.
@@ -50,20 +63,15 @@ fn zero_state() -> State
 pub fn set_up(key: &[u8], m: usize) -> SetUp
     ensures { result ≡ set_up key.now m }
 {
-    let number = ocb_numbers::refuse_set_up(key.len(), m);
-    if number != 0 {
-        let zeros = zero_state();
+    if let Err(refused) = ocb_numbers::refuse_set_up(key.len(), m) {
         return SetUp {
-            number: number,
-            state: zeros,
+            number: refused.into(),
+            state: zero_state(),
         };
     }
     let rounds = aes::rounds_for(key.len());
     let state = ocb_variables::key_dependent_variables(aes::expand_key(key), rounds, m);
-    SetUp {
-        number: 0,
-        state: state,
-    }
+    SetUp { number: 0, state }
 }
 
 // Seals a text whose sizes are in range, under a lent key.
@@ -94,19 +102,13 @@ pub fn seal(s: State, nonce: &[u8], ad: &[u8], text: &mut [u8], tag: &mut [u8]) 
         result text.new tag.new }
 {
     let v = s.values;
-    let number = ocb_numbers::refuse(v.m, v.rounds, nonce.len(), ad.len(), text.len(), tag.len());
-    if number != 0 {
-        return Answer {
-            number: number,
-            calls: 0,
-        };
+    let sizes = ocb_numbers::refuse(v.m, v.rounds, nonce.len(), ad.len(), text.len(), tag.len());
+    if let Err(refused) = sizes {
+        return refused.into();
     }
     let calls = ocb_numbers::calls(ad.len(), text.len());
     encrypt(&s.lend(), nonce, ad, text, tag);
-    Answer {
-        number: 0,
-        calls: calls,
-    }
+    Answer { number: 0, calls }
 }
 
 // Opens the text where it lies. If the tag is not the text's, every byte of the text is zero; a refusal of the sizes changes nothing.
@@ -115,23 +117,17 @@ pub fn open(s: State, nonce: &[u8], ad: &[u8], text: &mut [u8], tag: &[u8]) -> A
         result text.new tag.now }
 {
     let v = s.values;
-    let number = ocb_numbers::refuse(v.m, v.rounds, nonce.len(), ad.len(), text.len(), tag.len());
-    if number != 0 {
-        return Answer {
-            number: number,
-            calls: 0,
-        };
+    let sizes = ocb_numbers::refuse(v.m, v.rounds, nonce.len(), ad.len(), text.len(), tag.len());
+    if let Err(refused) = sizes {
+        return refused.into();
     }
     let calls = ocb_numbers::calls(ad.len(), text.len());
     if decrypt(&s.lend(), nonce, ad, text, tag) {
-        return Answer {
-            number: 0,
-            calls: calls,
-        };
+        return Answer { number: 0, calls };
     }
     block::clear(text);
     Answer {
-        number: 7,
-        calls: calls,
+        number: Refusal::WrongTag.into(),
+        calls,
     }
 }

@@ -1,15 +1,15 @@
 -- The two lists of numbers: what an admitted size is known to be, and that nothing else is refused. Each test is one of a list's rules.
 -- Assumes nothing.
-use mathlib.Core.Path.{◌≡◌, refl, ap, ◌∙◌}
+use mathlib.Core.Path.{◌≡◌, refl, ap}
 use mathlib.Core.Bool.{Bool, true, false, not, ◌||◌}
-use Prim.Native.Nat.{ℕ, ◌+◌, ◌*◌, ◌%◌, ◌^◌, ◌≤◌}
-use native.Mathlib.Nat.{one-mul, mod-eq_of_lt, lt_of_le_of_lt}
+use Prim.Native.Nat.{ℕ, ◌≤◌}
 use native.Mathlib.Omega.{arith}
 use borrow.Author.Tests.{ltb-false, not-false, le-ltb}
 use lib.Dec.{ltb, lit<, lit≤}
-use lib.Pow.{pow_mono}
 use Rattle.sizes.specs.Sizes.{key_lengths, round_numbers, among, KeyLength, Rounds, m_most, nonce_least, nonce_most, tag_least, tag_most}
-use Rattle.ocb_numbers.specs.Numbers.{outside, limit, too_long, set_up_rules, set_up_number, size_rules, refusal, Inside, Fits, InRange}
+use Rattle.ocb_numbers.specs.declared.Refusal.{Refusal}
+use Rattle.ocb_numbers.specs.declared.Refusal.TheVariants.{Key, State, Nonce, Tag, Text, Data, WrongTag}
+use Rattle.ocb_numbers.specs.Numbers.{number_of, outside, limit, too_long, set_up_rules, set_up_number, size_rules, refusal, Inside, Fits, InRange}
 use Rattle.ocb_numbers.proofs.RuleLaws.{Numbered, first-none, none_applies, first_most}
 
 -- ---- in least..most
@@ -31,6 +31,17 @@ fits m n h e = record { filled = h; short = ltb-false (limit m) n e }
 
 not_too_long : {m n : ℕ} → Fits m n → too_long m n ≡ false
 not_too_long {m} {n} f = le-ltb (limit m) n f.short
+
+-- ---- a refusal has a number
+
+pub numbered_from_1 : (r : Refusal) → number_of r ≡ 0 → ⊥
+numbered_from_1 Key e = omega arith
+numbered_from_1 State e = omega arith
+numbered_from_1 Nonce e = omega arith
+numbered_from_1 Tag e = omega arith
+numbered_from_1 Text e = omega arith
+numbered_from_1 Data e = omega arith
+numbered_from_1 WrongTag e = omega arith
 
 -- ---- set_up
 
@@ -82,12 +93,6 @@ module _ (m rounds nonce ad text tag : ℕ) where
   pub refusal_most : refusal m rounds nonce ad text tag ≤ 6
   unfolding refusal
   refusal_most = first_most 6 (size_rules m rounds nonce ad text tag) (numbered m rounds nonce ad text tag)
-
--- the limit as the code shifts it
-pub limit_is : (m : ℕ) → m ≤ m_most → 1 * 2 ^ (m + 4) % 2 ^ 64 ≡ limit m
-limit_is m h =
-    ap (λ (x : ℕ). x % 2 ^ 64) (one-mul (2 ^ (m + 4)))
-    ∙ mod-eq_of_lt (lt_of_le_of_lt (pow_mono {j = 30} (omega arith)) (lit< tt))
 
 -- ---- both sides of the limit, computed
 

@@ -24,18 +24,6 @@ Applies i [] = ⊥
 Applies zero (rule ∷ rules) = rule.applies ≡ true
 Applies (suc i) (rule ∷ rules) = Applies i rules
 
--- or does not
-abbrev pub Fails : ℕ → List Rule → Type 0
-Fails i [] = ⊥
-Fails zero (rule ∷ rules) = rule.applies ≡ false
-Fails (suc i) (rule ∷ rules) = Fails i rules
-
--- where none of the first i applies, nor rule i, none of one more does
-pub none_to : (i : ℕ) (rules : List Rule) → NoneBefore i rules → Fails i rules → NoneBefore (suc i) rules
-none_to i [] none this = absurd this
-none_to zero (rule ∷ rules) none this = (this, tt)
-none_to (suc i) (rule ∷ rules) none this = (none.0, none_to i rules none.1 this)
-
 abbrev pub number_at : ℕ → List Rule → ℕ
 number_at i [] = 0
 number_at zero (rule ∷ rules) = rule.number

@@ -1,7 +1,9 @@
 -- The product's table of numbers: which sizes are refused, by which number, and the count of cipher calls where none is. Sizes stand in the order of a
 -- call's parts: those of the state, nonce, associated data, text, tag.
-use Rattle.std.specs.Prelude.{Bool, cond, not, ◌||◌, List, [], ◌∷◌, ℕ, ◌+◌, ◌/◌, ◌^◌, ◌<◌, ◌≤◌, ltb}
+use Rattle.std.specs.Prelude.{Bool, cond, not, ◌||◌, List, [], ◌∷◌, ℕ, ◌+◌, ◌/◌, ◌^◌, ◌<◌, ◌≤◌, ltb, Result, Ok, Err}
 use Rattle.sizes.specs.Sizes.{key_lengths, round_numbers, among, m_most, nonce_least, nonce_most, tag_least, tag_most}
+use Rattle.ocb_numbers.specs.declared.Refusal.{Refusal}
+use Rattle.ocb_numbers.specs.declared.Refusal.TheVariants.{Key, State, Nonce, Tag, Text, Data, WrongTag}
 
 -- ---- The numbers: each with the test that gives it. The first rule that applies gives its number; where none does, the number is 0.
 
@@ -44,6 +46,21 @@ size_rules m rounds nonce ad text tag =
 
 unfoldable pub refusal : ℕ → ℕ → ℕ → ℕ → ℕ → ℕ → ℕ
 refusal m rounds nonce ad text tag = first (size_rules m rounds nonce ad text tag)
+
+-- ---- The numbers as a program has them: that of a refusal, and that of an outcome, which is 0 where nothing is refused
+
+abbrev pub number_of : Refusal → ℕ
+number_of Key = 1
+number_of State = 2
+number_of Nonce = 3
+number_of Tag = 4
+number_of Text = 5
+number_of Data = 6
+number_of WrongTag = 7
+
+abbrev pub outcome_number : Result Unit Refusal → ℕ
+outcome_number (Ok _) = 0
+outcome_number (Err r) = number_of r
 
 -- ---- Sizes that no number refuses
 

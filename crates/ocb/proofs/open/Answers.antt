@@ -12,20 +12,20 @@ use borrow.Author.Rules.{rules}
 use Rattle.ocb.proofs.Outcomes.{open_refused_lem, sizes, open_done, open_cleared}
 use Rattle.ocb.proofs.open.Goals as goal
 
-pub returns-then-number-ne0 : goal.returns-then-number-ne0
-returns-then-number-ne0 c =
+pub returns-in-Err : goal.returns-in-Err
+returns-in-Err c =
     let a = c.args in
-    open_refused_lem a.s a.nonce.now a.ad.now a.text.now a.tag.now c.refuse-number.ensures c.if-number-ne0.true
+    open_refused_lem a.s a.nonce.now a.ad.now a.text.now a.tag.now c.in-Err.refused c.in-Err.ensures c.into.ensures
 
 pub lend-requires : goal.lend-requires
 lend-requires c =
     let a = c.args in
-    (sizes a.s a.nonce.now a.ad.now a.text.now a.tag.now c.refuse-number.ensures c.if-number-ne0.false).0
+    (sizes a.s a.nonce.now a.ad.now a.text.now a.tag.now c.in_default.ensures).0
 
 pub decrypt-requires : goal.decrypt-requires
 decrypt-requires c =
     let a = c.args in
-    let admitted = sizes a.s a.nonce.now a.ad.now a.text.now a.tag.now c.refuse-number.ensures c.if-number-ne0.false in
+    let admitted = sizes a.s a.nonce.now a.ad.now a.text.now a.tag.now c.in_default.ensures in
     subst⁻¹ (λ (m : ℕ). InRange m (length a.nonce.now) (length a.ad.now) (length a.text.now) (length a.tag.now)) c.lend.ensures.m admitted.1
 
 pub returns-then-decrypt : goal.returns-then-decrypt
@@ -34,7 +34,7 @@ returns-then-decrypt c =
     -- a state's round keys are bytes, by their type
     let keys : Bytes a.s.round_keys = λ i. (let f : Fits w8 (get_or a.s.round_keys i 0) = search rules in f.fits) in
     let done = subst (λ (K : Key). Decrypted K a.nonce.now a.ad.now a.text.now a.tag.now c.decrypt.new.text c.decrypt.result) c.lend.ensures.key c.decrypt.ensures in
-    open_done a.s a.nonce.now a.ad.now a.text.now a.tag.now c.refuse-number.ensures c.if-number-ne0.false keys
+    open_done a.s a.nonce.now a.ad.now a.text.now a.tag.now c.in_default.ensures keys
     (λ i. (c.type_inv.nonce i).fits) c.calls-calls.ensures done c.if-decrypt.true
 
 pub returns : goal.returns
@@ -42,6 +42,6 @@ returns c =
     let a = c.args in
     let keys : Bytes a.s.round_keys = λ i. (let f : Fits w8 (get_or a.s.round_keys i 0) = search rules in f.fits) in
     let done = subst (λ (K : Key). Decrypted K a.nonce.now a.ad.now a.text.now a.tag.now c.decrypt.new.text c.decrypt.result) c.lend.ensures.key c.decrypt.ensures in
-    open_cleared a.s a.nonce.now a.ad.now a.text.now a.tag.now c.refuse-number.ensures c.if-number-ne0.false keys
+    open_cleared a.s a.nonce.now a.ad.now a.text.now a.tag.now c.in_default.ensures keys
     (λ i. (c.type_inv.nonce i).fits) c.calls-calls.ensures done c.if-decrypt.false
-    c.decrypt.auto.text c.clear.ensures
+    c.decrypt.auto.text c.clear.ensures c.into-2.ensures
