@@ -6,6 +6,7 @@ mod vectors; // vectors.rt: the values
 
 ghost use Rattle.sizes.specs.Sizes.{Rounds};
 
+use aes::Cipher;
 use sizes::{ROUND_KEY_BYTES, ROUNDS_128, RoundKeys};
 use std::io;
 use vectors::{Case, Four, Key, Schedule};
@@ -39,23 +40,15 @@ fn expand(key: Key) -> Expanded
 }
 
 fn enciphers(c: Case) -> bool {
-    let plain = c.plain;
-    let expected = c.cipher;
     let expanded = expand(c.key);
-    let keys = expanded.keys;
-    let tables = aes::encipher_tables();
-    let made = aes::encipher_with(&tables, &keys, expanded.rounds, plain);
-    check::same(&made, &expected)
+    let made = Cipher::new(&expanded.keys, expanded.rounds).encipher(c.plain);
+    check::same(&made, &c.cipher)
 }
 
 fn deciphers(c: Case) -> bool {
-    let cipher = c.cipher;
-    let expected = c.plain;
     let expanded = expand(c.key);
-    let keys = expanded.keys;
-    let tables = aes::decipher_tables();
-    let made = aes::decipher_with(&tables, &keys, expanded.rounds, cipher);
-    check::same(&made, &expected)
+    let made = Cipher::new(&expanded.keys, expanded.rounds).decipher(c.cipher);
+    check::same(&made, &c.plain)
 }
 
 // How many of a list agree, and which is the first that does not, counted from 1; 0 where all agree.
