@@ -12,14 +12,14 @@ pub fn hash(k: &LentKey<'_>, ad: &[u8]) -> Block
     requires { Fits k.now.m (length ad.now) }
     ensures { result ≡ HASH (key_of k.now) ad.now }
 {
-    let blocks = ad.len() / 16;
+    let blocks = ad.chunks_exact(16);
+    let part = blocks.remainder();
     let mut r = Run::start([0; 16]);
-    for i in 0..blocks {
-        r = r.hash_one(k, block::load(ad, i * 16));
+    for block in blocks {
+        r = r.hash_one(k, block::load(block, 0));
     }
-    let whole = blocks * 16;
-    if whole < ad.len() {
-        return r.hash_last(k, &ad[whole..]);
+    if part.is_empty() {
+        return r.sum;
     }
-    r.sum
+    r.hash_last(k, part)
 }
