@@ -1,13 +1,12 @@
--- Numbers as strings of digits, the highest first, to any base: the laws of `digits` and `number`, and the turns of loops that read them.
+-- Numbers as strings of digits, the highest first, to any base: the laws of `digits` and `number`.
 -- Each goes by induction on the string or on the count of digits. Assumes nothing.
 use mathlib.Core.Path.{◌≡◌, refl, sym, ap, ap₂, ◌∙◌, subst}
 use mathlib.Core.List.{List, [], ◌∷◌, ◌++◌, append_assoc, append-nil}
 use Prim.Native.Nat.{ℕ, zero, suc, ◌+◌, ◌*◌, ◌/◌, ◌%◌, ◌^◌, ◌<◌}
-use native.Mathlib.Nat.{add-mul, add-suc, add-zero, zero-add, zero-mul, mul_assoc, mul-one, one-mul, pow-zero, pow-suc, pow-succ', mod-lt, mod-one, mod-eq_of_lt, div-div-eq-div-mul, div-one, one-le-pow, le_of_eq, le_of_suc-le-suc, lt_of_lt_of_le, pow-le-pow_right}
+use native.Mathlib.Nat.{add-mul, add-suc, add-zero, zero-add, zero-mul, mul_assoc, mul-one, one-mul, pow-zero, pow-suc, pow-succ', mod-lt, mod-one, mod-eq_of_lt, div-div-eq-div-mul, div-one, one-le-pow, le_of_eq}
 use native.Mathlib.Omega.{arith}
 use native.Mathlib.Numerals.{add-one, one-add}
-use lib.ListN.{length, get_or, take, length-append}
-use lib.Seq.{take-suc}
+use lib.ListN.{length, get_or, length-append}
 use lib.Arith.{digits_lt, digits_div, digits_mod, mod-mul}
 use lib.Pow.{pow-add}
 use Rattle.standards.specs.Strings.{digits, number}
@@ -101,10 +100,6 @@ module _ (base : ℕ) where
         (ap (digits base k) (ap (λ (x : ℕ). x / base) (mod_step k n) ∙ digits_div (n / base % base ^ k) (digit_below n)) ∙ digits_low k (n / base))
         (ap (λ (x : ℕ). x % base) (mod_step k n) ∙ digits_mod (n / base % base ^ k) (digit_below n))
 
-    -- before the last of k + 1 digits is read, the number has at most k
-    pub number_room : (i k n : ℕ) → i < suc k → n < base ^ i → n < base ^ k
-    number_room i k n h l = lt_of_lt_of_le l (pow-le-pow_right positive (le_of_suc-le-suc h))
-
     -- ---- there and back
 
     pub number_digits : (k n : ℕ) → number base (digits base k n) ≡ n % base ^ k
@@ -127,16 +122,3 @@ module _ (base : ℕ) where
         ∙ ap₂ (λ (y : ℕ) (T : List ℕ). y ∷ T)
         (ap (λ (q : ℕ). q % base) (digits_div x low) ∙ mod-eq_of_lt (h 0))
         (sym (digits_low k (x * base ^ k + n)) ∙ ap (digits base k) (digits_mod x low) ∙ digits_number S (λ i. h (suc i)))
-
-  -- ---- turns of loops
-
-  -- reading from the first digit on: x is the number of the digits read so far
-  pub number_turn : (S : List ℕ) (i x : ℕ) → i < length S → x ≡ number base (take i S) → x * base + get_or S i 0 ≡ number base (take (i + 1) S)
-  number_turn S i x h e =
-      ap (λ (y : ℕ). y * base + get_or S i 0) e
-      ∙ sym (number-last (take i S) (get_or S i 0))
-      ∙ ap (number base) (sym (take-suc S i 0 h) ∙ ap (λ (k : ℕ). take k S) (sym (add-one i)))
-
-  -- one digit more makes a number of one digit more
-  pub number_more : (i x y : ℕ) → x < base ^ i → y < base → x * base + y < base ^ (i + 1)
-  number_more i x y hx hy = subst (λ (z : ℕ). x * base + y < z) (sym (ap (λ (k : ℕ). base ^ k) (add-one i) ∙ pow-suc base i)) (digits_lt hx hy)

@@ -66,10 +66,10 @@ fn l_table(dollar: Block, m: usize) -> Table
     ensures { result ≡ table_of dollar m }
 {
     let mut table = [0u8; TABLE_BYTES];
-    let mut l = block::halves_of(dollar);
+    let mut l = Halves::from(dollar);
     for i in 0..m + 1 {
-        l = block::double_halves(l);
-        block::store_halves(&mut table, i * 16, l);
+        l = l.doubled();
+        block::store(&mut table, i * 16, Block::from(l));
     }
     table
 }
@@ -162,13 +162,10 @@ fn cut(stretch: [u8; 24], bottom: usize) -> Block
     let a = block::load_be64(&stretch, 0);
     let b = block::load_be64(&stretch, 8);
     let c = block::load_be64(&stretch, 16);
-    let words = Halves {
+    Block::from(Halves {
         high: bits_from(a, b, bottom),
         low: bits_from(b, c, bottom),
-    };
-    let mut offset = [0u8; 16];
-    block::store_halves(&mut offset, 0, words);
-    offset
+    })
 }
 
 // Offset_0. Of a key it takes the cipher alone.

@@ -3,29 +3,23 @@ use mathlib.Core.Path.{◌≡◌, refl, ap, ◌∙◌}
 use Prim.Native.Nat.{ℕ}
 use native.Mathlib.Omega.{arith}
 use borrow.Author.Rules.{rules}
-use lib.ListN.{length, take, length-set}
+use lib.ListN.{length, take}
 use Rattle.standards.specs.Strings.{◌⊕◌, ◌xor◌}
 use Rattle.block.proofs.StringLaws.{xor_turn, xor_take}
 use Rattle.block.proofs.inplace_xor.Goals as goal
 
 pub loop-i-init : goal.loop-i-init
 unfolding ◌xor◌
-loop-i-init c = (search rules, refl, refl, refl, search rules, search rules)
+loop-i-init c = (refl, search rules)
 
 pub loop-i-preserved : goal.loop-i-preserved
 unfolding ◌⊕◌
 loop-i-preserved c =
-    let l = c.loop-i in (
-      omega arith,
-      refl,
-      simp length-set l.invariant.2,
-      xor_turn c.args.a.now c.args.b l.a l.i (omega arith) l.invariant.3,
-      l.invariant.4,
-      l.invariant.5,
-    )
+    let l = c.loop-i in
+    (xor_turn c.args.a.now c.args.b l.a l.i (omega (arith, l.invariant.1)) l.invariant.0, l.invariant.1)
 
 pub returns : goal.returns
 returns c =
     let l = c.loop-i in
     let e : l.i ≡ length c.args.a.now = omega arith in
-    l.invariant.3 ∙ ap (λ (k : ℕ). c.args.a.now xor take k c.args.b) e ∙ xor_take c.args.a.now c.args.b
+    l.invariant.0 ∙ ap (λ (k : ℕ). c.args.a.now xor take k c.args.b) e ∙ xor_take c.args.a.now c.args.b

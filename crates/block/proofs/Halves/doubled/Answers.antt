@@ -1,4 +1,4 @@
--- `block::double_halves` meets its contract: the bit carried is the low word's top bit, the bit lost the high word's. Assumes nothing.
+-- `Halves::doubled` meets its contract: the bit carried is the low word's top bit, the bit lost the high word's. Assumes nothing.
 use mathlib.Core.Path.{◌≡◌, sym, ap₂, ◌∙◌}
 use mathlib.Core.List.{◌++◌}
 use Prim.Native.Nat.{ℕ, ◌*◌, ◌/◌, ◌%◌, ◌^◌}
@@ -8,12 +8,12 @@ use lib.Bits.{bit_or}
 use Rattle.standards.specs.Strings.{◌⊕◌, to_bytes}
 use Rattle.block.specs.declared.Halves.{Halves}
 use Rattle.block.proofs.DoubleLaws.{double_words}
-use Rattle.block.proofs.double_halves.Goals as goal
+use Rattle.block.proofs.Halves.doubled.Goals as goal
 
 pub returns : goal.returns
 unfolding ◌⊕◌
 returns c =
-    let x : Halves = c.args.x in
+    let x : Halves = c.args.self in
     let carried = c.top_bit-carried in
     let lost = c.top_bit-lost in
     let low-top : carried.result ≡ x.low / 2 ^ 63 = omega (arith, carried.ensures) in

@@ -1,4 +1,4 @@
--- `block::halves_of` meets its contract: a block is the bytes of its first eight bytes' number and of its last eight's. Assumes nothing.
+-- The words of a block: it is the bytes of its first eight bytes' number and of its last eight's. Assumes nothing.
 use mathlib.Core.Path.{◌≡◌, sym, ap, ap₂, ◌∙◌}
 use mathlib.Core.List.{List, ◌++◌}
 use Prim.Native.Nat.{ℕ, ◌+◌, ◌≤◌}
@@ -10,7 +10,7 @@ use Rattle.standards.specs.Strings.{num, to_bytes, Bytes, Block}
 use Rattle.block.proofs.NumberLaws.{digits_number}
 use Rattle.block.proofs.StringLaws.{bytes_take, bytes_drop}
 use Rattle.block.proofs.Owned.{owned_block}
-use Rattle.block.proofs.halves_of.Goals as goal
+use Rattle.block.proofs.HalvesFromBlock.from.Goals as goal
 
 -- eight bytes are those of their number
 word : (b : List ℕ) (at : ℕ) → at + 8 ≤ length b → Bytes b → to_bytes 8 (num (take 8 (drop at b))) ≡ take 8 (drop at b)
