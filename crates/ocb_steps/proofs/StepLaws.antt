@@ -13,16 +13,10 @@ use Rattle.block.proofs.StringLaws.{xor_take}
 use Rattle.ocb_steps.specs.declared.Run.{Run}
 use Rattle.ocb_steps.specs.Steps.{turned, summed, next_offset, after, One, Two, Last, last_plain}
 
--- ---- a store over the whole of a block, and two over a pair
+-- ---- a store over the whole of a block
 
 stored_one : (S b : List ℕ) → length S ≡ 16 → take 0 S ++ (b ++ drop 16 S) ≡ b
 stored_one S b h = ap (λ (x : List ℕ). b ++ x) (drop_of_length-le S {i = 16} (omega arith)) ∙ append-nil b
-
-stored_two : (S T b c : List ℕ) → length S ≡ 32 → length b ≡ 16 → T ≡ take 0 S ++ (b ++ drop 16 S) → take 16 T ++ (c ++ drop 32 T) ≡ b ++ c
-stored_two S T b c hS hb e =
-    let hT : length T ≡ 32 = ap length e ∙ simp (length-append, length-drop) (omega arith) in
-    ap₂ (λ (x y : List ℕ). x ++ (c ++ y)) (ap (take 16) e ∙ take_at b (drop 16 S) 16 hb) (drop_of_length-le T {i = 32} (omega arith))
-    ∙ ap (λ (x : List ℕ). b ++ x) (append-nil c)
 
 -- ---- whole blocks
 
@@ -51,30 +45,24 @@ module _ (opens : Bool) (K : Key) where
         text = et ∙ stored_one S b h ∙ eb ∙ ap₂ (turned opens K) eo whole;
       }
 
-  pub two_made : {a₁ a₂ o₁ o₂ b₁ b₂ x₁ x₂ s₁ s₂ T S' : List ℕ} (S : List ℕ) (r : Run) → length S ≡ 32 → length b₁ ≡ 16
-      → a₁ ≡ take 16 (drop 0 S) → a₂ ≡ take 16 (drop 16 S)
-      → o₁ ≡ r.offset xor K.L (ntz (r.done + 1)) → o₂ ≡ o₁ xor K.L (ntz (r.done + 1 + 1))
-      → b₁ ≡ turned opens K o₁ a₁ → b₂ ≡ turned opens K o₂ a₂ → x₁ ≡ cond opens b₁ a₁ → x₂ ≡ cond opens b₂ a₂
-      → s₁ ≡ r.sum xor x₁ → s₂ ≡ s₁ xor x₂
-      → T ≡ take 0 S ++ (b₁ ++ drop 16 S) → S' ≡ take 16 T ++ (b₂ ++ drop 32 T)
-      → Two opens K S r S' (record { done = r.done + 1 + 1; offset = o₂; sum = s₂ })
-  unfolding block_at next_offset
-  two_made {o₁ = o₁} {b₁ = b₁} {b₂} {s₁ = s₁} {T = T} S r h h₁ ea₁ ea₂ eo₁ eo₂ eb₁ eb₂ ep₁ ep₂ es₁ es₂ eT et =
-      let ex₁ = ep₁ ∙ plain_summed opens K _ _ eb₁ in
-      let ex₂ = ep₂ ∙ plain_summed opens K _ _ eb₂ in
-      let r₁ : Run = record { done = r.done + 1; offset = o₁; sum = s₁ } in
-      let e₁ : r₁ ≡ after (summed opens K) K (block_at S 0) r = after_made (summed opens K) K (block_at S 0) r eo₁ (ex₁ ∙ ap (summed opens K o₁) ea₁) es₁ in
-      let first : b₁ ≡ turned opens K (next_offset K r) (block_at S 0) = eb₁ ∙ ap₂ (turned opens K) eo₁ ea₁ in
-      let second : b₂ ≡ turned opens K (next_offset K r₁) (block_at S 1) = eb₂ ∙ ap₂ (turned opens K) eo₂ ea₂ in
+  pub one_done : {S S' : List ℕ} {r r' : Run} → One opens K S r S' r' → r'.done ≡ r.done + 1
+  unfolding after
+  one_done one = ap (λ (z : Run). z.done) one.run
+
+  -- one block and one more are two
+  pub two_made : {S S₁ S₂ b₁ b₂ : List ℕ} {r r₁ r₂ : Run} → length S ≡ 32 → S₁ ≡ take 16 S → S₂ ≡ drop 16 S → length b₁ ≡ 16
+      → One opens K S₁ r b₁ r₁ → One opens K S₂ r₁ b₂ r₂ → Two opens K S r (b₁ ++ b₂) r₂
+  unfolding block_at
+  two_made {S} {S₁} {S₂} {b₁} {b₂} {r} {r₁} h e₁ e₂ hb one more =
+      let block₂ : S₂ ≡ block_at S 1 = e₂ ∙ sym (take_all 16 (drop 16 S) (omega (arith, length-drop 16 S))) in
+      let run₁ : r₁ ≡ after (summed opens K) K (block_at S 0) r = one.run ∙ ap (λ (B : List ℕ). after (summed opens K) K B r) e₁ in
+      let first : b₁ ≡ turned opens K (next_offset K r) (block_at S 0) = one.text ∙ ap (turned opens K (next_offset K r)) e₁ in
       record {
-        run =
-            after_made (summed opens K) K (block_at S 1) r₁ eo₂ (ex₂ ∙ ap (summed opens K _) ea₂) es₂
-            ∙ ap (after (summed opens K) K (block_at S 1)) e₁;
+        run = more.run ∙ ap₂ (λ (B : List ℕ) (z : Run). after (summed opens K) K B z) block₂ run₁;
         text =
-            et
-            ∙ stored_two S T b₁ b₂ h h₁ eT
-            ∙ ap₂ (λ (x y : List ℕ). x ++ y) first (second ∙ ap (λ (z : Run). turned opens K (next_offset K z) (block_at S 1)) e₁);
-        half = ap length (sym first) ∙ h₁;
+            ap₂ (λ (x y : List ℕ). x ++ y) first
+            (more.text ∙ ap₂ (λ (z : Run) (B : List ℕ). turned opens K (next_offset K z) B) run₁ block₂);
+        half = ap length (sym first) ∙ hb;
       }
 
 -- a block of associated data

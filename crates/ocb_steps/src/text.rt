@@ -15,25 +15,8 @@ impl Run {
         requires { (InTable k.now.m (self.done + 1 + 1)) × (length pair.old ≡ 32) }
         ensures { Two W.opens (key_of k.now) pair.old self pair.new result }
     {
-        let b1 = block::load(pair, 0);
-        let b2 = block::load(pair, 16);
-        // Offset_i = Offset_{i-1} xor L_{ntz(i)}
-        let n1 = self.done + 1;
-        let n2 = n1 + 1;
-        let o1 = blocks::next_offset(k, n1, self.offset);
-        let o2 = blocks::next_offset(k, n2, o1);
-        let t1 = W::turn(k, o1, b1);
-        let t2 = W::turn(k, o2, b2);
-        // Checksum_i = Checksum_{i-1} xor P_i
-        let s1 = block::xor(self.sum, W::plain(b1, t1));
-        let s2 = block::xor(s1, W::plain(b2, t2));
-        block::store(pair, 0, t1);
-        block::store(pair, 16, t2);
-        Run {
-            done: n2,
-            offset: o2,
-            sum: s2,
-        }
+        let (first, second) = pair.split_at_mut(16);
+        self.one::<W>(k, first).one::<W>(k, second)
     }
 
     // One block where it lies.

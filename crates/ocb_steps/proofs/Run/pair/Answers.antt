@@ -1,14 +1,24 @@
--- `Run::pair` meets its contract: its calls make the offsets, the text and the checksums of two blocks. Assumes nothing.
+-- `Run::pair` meets its contract: one block and one more. Assumes nothing.
+use mathlib.Core.Path.{◌≡◌, ap, ◌∙◌}
+use Prim.Native.Nat.{◌+◌}
+use native.Mathlib.Omega.{arith}
 use Rattle.ocb_variables.specs.Held.{key_of}
-use Rattle.ocb_steps.proofs.StepLaws.{two_made}
+use Rattle.ocb_steps.specs.declared.Run.{Run}
+use Rattle.ocb_steps.proofs.StepLaws.{two_made, one_done}
 use Rattle.ocb_steps.proofs.Run.pair.Goals as goal
+
+pub one-requires : goal.one-requires
+one-requires g c =
+    let halves = c.split_at_mut-first.ensures in
+    (record { filled = c.requires.0.filled; counted = omega arith; early = omega (arith, c.requires.0.early) }, halves.front_len)
+
+pub one-requires-2 : goal.one-requires-2
+one-requires-2 g c =
+    let halves = c.split_at_mut-first.ensures in
+    let next : c.one.result.done ≡ c.args.self.done + 1 = one_done g.W.Way.opens (key_of c.args.k.now) c.one.ensures in
+    (record { filled = c.requires.0.filled; counted = omega arith; early = omega (arith, c.requires.0.early) }, omega (arith, halves.back_len, c.requires.1))
 
 pub returns : goal.returns
 returns g c =
-    two_made g.W.Way.opens (key_of c.args.k.now) c.args.pair.now c.args.self c.requires.1
-    c.turn-t1.type_inv.1.0.1
-    c.load-b1.ensures c.load-b2.ensures
-    c.next_offset-o1.ensures c.next_offset-o2.ensures
-    c.turn-t1.ensures c.turn-t2.ensures c.plain.ensures c.plain-2.ensures
-    c.xor-s1.ensures c.xor-s2.ensures
-    c.store.ensures c.store-2.ensures
+    let halves = c.split_at_mut-first.ensures in
+    two_made g.W.Way.opens (key_of c.args.k.now) c.requires.1 halves.front halves.back (c.one.auto.one ∙ halves.front_len) c.one.ensures c.one-2.ensures
