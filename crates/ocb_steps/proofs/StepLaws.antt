@@ -5,8 +5,8 @@ use mathlib.Core.List.{List, [], ◌∷◌, ◌++◌, append-nil}
 use Prim.Native.Nat.{ℕ, ◌+◌, ◌<◌}
 use native.Mathlib.Nat.{not-suc-le-zero}
 use native.Mathlib.Omega.{arith}
-use lib.ListN.{length, take, drop, length-append, length-drop, drop_of_length-le}
-use lib.Seq.{take_at, take_all}
+use lib.ListN.{length, take, drop, length-drop, drop_of_length-le}
+use lib.Seq.{take_all}
 use Rattle.standards.specs.Strings.{◌xor◌}
 use Rattle.standards.specs.Rfc7253.{Key, ntz, block_at, hash_block, padded, last_text, last_hash}
 use Rattle.block.proofs.StringLaws.{xor_take}

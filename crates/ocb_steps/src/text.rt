@@ -19,7 +19,8 @@ impl Run {
         self.one::<W>(k, first).one::<W>(k, second)
     }
 
-    // One block where it lies.
+    // One block where it lies. The attribute saves two calls in each pair: a hundred instructions of some five thousand.
+    #[inline(always)]
     pub fn one<W: Way>(self, k: &LentKey<'_>, one: &mut [u8]) -> Run
         requires { (InTable k.now.m (self.done + 1)) × (length one.old ≡ 16) }
         ensures { One W.opens (key_of k.now) one.old self one.new result }

@@ -1,9 +1,8 @@
 -- `Run::pair` meets its contract: one block and one more. Assumes nothing.
-use mathlib.Core.Path.{◌≡◌, ap, ◌∙◌}
+use mathlib.Core.Path.{◌≡◌, ◌∙◌}
 use Prim.Native.Nat.{◌+◌}
 use native.Mathlib.Omega.{arith}
 use Rattle.ocb_variables.specs.Held.{key_of}
-use Rattle.ocb_steps.specs.declared.Run.{Run}
 use Rattle.ocb_steps.proofs.StepLaws.{two_made, one_done}
 use Rattle.ocb_steps.proofs.Run.pair.Goals as goal
 
