@@ -2,53 +2,25 @@
 // a length and what the test program writes. A stream that ends inside a case ends the answers.
 #![tactic(auto)]
 
-ghost use Rattle.std.specs.Prelude.{◌≤◌};
-ghost use Rattle.std.specs.Io.{ReadsAtMost};
-ghost use Rattle.io.specs.Counts.{IsPrefixLen};
+use std::io::{ErrorKind, Read, Result, Write};
 
-use std::io::{Read, Result, Write};
-
-// The four bytes of a number, the lowest first.
-fn bytes(n: usize) -> [u8; 4] {
-    [
-        (n % 256) as u8,
-        (n / 256 % 256) as u8,
-        (n / 65536 % 256) as u8,
-        (n / 16777216 % 256) as u8,
-    ]
-}
-
-// At most n, and no more than buffer has.
-fn piece(n: usize, buffer: &[u8]) -> usize
-    ensures upper_bound { result ≤ n }
-    ensures prefix_len { IsPrefixLen result buffer.now }
-{
-    if n < buffer.len() { n } else { buffer.len() }
-}
-
-// Reads until buffer is full or the stream ends, and gives how many bytes it put at the front.
-fn read_full(from: &mut impl Read, buffer: &mut [u8]) -> Result<usize>
-    ensures { ReadsAtMost result buffer.new }
-{
-    let mut done = 0;
-    while done < buffer.len() {
-        let n = from.read(&mut buffer[done..])?;
-        if n == 0 {
-            break;
-        }
-        done += n;
+// Fills a buffer, and says whether the stream had so many bytes.
+fn filled(from: &mut impl Read, buffer: &mut [u8]) -> Result<bool> {
+    match from.read_exact(buffer) {
+        Ok(()) => Ok(true),
+        Err(e) if e.kind() == ErrorKind::UnexpectedEof => Ok(false),
+        Err(e) => Err(e),
     }
-    Ok(done)
 }
 
-// Reads left bytes and drops them, by way of a buffer.
+// Reads left bytes, or those that there are, and drops them, by way of a buffer.
 fn skip(from: &mut impl Read, left: usize, buffer: &mut [u8]) -> Result<()> {
     let mut left = left;
     while left > 0 {
-        let n = piece(left, buffer);
-        let got = read_full(from, &mut buffer[..n])?;
+        let n = left.min(buffer.len());
+        let got = from.read(&mut buffer[..n])?;
         if got == 0 {
-            return Ok(());
+            break;
         }
         left -= got;
     }
@@ -63,18 +35,17 @@ fn answer_next(
     out: &mut [u8],
 ) -> Result<bool> {
     let mut head = [0u8; 4];
-    if read_full(from, &mut head)? < 4 {
+    if !filled(from, &mut head)? {
         return Ok(false);
     }
-    let length = cases::number_at(&head, 0);
-    let n = piece(length, case);
-    if read_full(from, &mut case[..n])? < n {
+    let length = u32::from_le_bytes(head) as usize;
+    let n = length.min(case.len());
+    if !filled(from, &mut case[..n])? {
         return Ok(false);
     }
     let k = cases::respond(&case[..n], out);
     skip(from, length - n, case)?;
-    let frame = bytes(k);
-    to.write_all(&frame)?;
+    to.write_all(&k.to_le_bytes()[..4])?;
     to.write_all(&out[..k])?;
     Ok(true)
 }
