@@ -1,22 +1,14 @@
-// What the program writes to standard output.
-use std::io;
+// Bytes as text in lowercase hex, two digits to a byte.
+use std::fmt;
 
-pub fn words(rt: &impl Print, s: &str) -> io::Result<()> {
-    rt.print(s)
-}
+#[derive(Clone, Copy)]
+pub struct Hex<'a>(pub &'a [u8]);
 
-pub fn number(rt: &impl Print, n: usize) -> io::Result<()> {
-    rt.print(n)
-}
-
-pub fn hex(rt: &impl Print, s: &[u8]) -> io::Result<()> {
-    for byte in s {
-        print!(rt; "{byte:02x}")?;
+impl<'a> fmt::Display for Hex<'a> {
+    fn fmt<W: fmt::Write>(&self, f: &mut fmt::Formatter<W>) -> fmt::Result {
+        for byte in self.0 {
+            write!(f, "{byte:02x}")?;
+        }
+        Ok(())
     }
-    Ok(())
-}
-
-// Eight digits and more.
-pub fn hex_number(rt: &impl Print, n: u64) -> io::Result<()> {
-    print!(rt; "{n:08x}")
 }

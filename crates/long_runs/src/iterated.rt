@@ -1,95 +1,64 @@
 // RFC 7253, appendix A: the test over a wider range. 384 seals of 0 to 127 zero bytes, and one with all their results as associated data.
+ghost use Rattle.std.specs.Prelude.{◌≤◌};
+
 use ocb_variables::State;
+use std::io;
+use std::io::{Cursor, Write};
 
-// n in twelve bytes, the highest first; n is below 65,536.
-fn nonce(n: usize) -> [u8; 12] {
-    [
-        0,
-        0,
-        0,
-        0,
-        0,
-        0,
-        0,
-        0,
-        0,
-        0,
-        (n / 256 % 256) as u8,
-        (n % 256) as u8,
-    ]
+// n in twelve bytes, the highest first.
+fn nonce(n: u16) -> [u8; 12] {
+    let [high, low] = n.to_be_bytes();
+    [0, 0, 0, 0, 0, 0, 0, 0, 0, 0, high, low]
 }
 
-// Copies tag into c from place at on, and gives the place behind it; at itself where there is no room.
-fn put(tag: &[u8], c: &mut [u8], at: usize) -> usize {
-    if c.len() < at {
-        return at;
-    }
-    if c.len() - at < tag.len() {
-        return at;
-    }
-    block::copy_at(c, at, tag);
-    at + tag.len()
-}
-
-// Seals the text bytes of c from place at on under nonce n, puts the tag behind them and gives the place behind it; at itself where there is no room.
+// Seals so many zeros, at most 128, under nonce n, and writes what comes of them and the tag.
 fn seal_next(
     s: State,
-    n: usize,
+    n: u16,
     ad: &[u8],
     text: usize,
     tag: &mut [u8],
-    c: &mut [u8],
-    at: usize,
-) -> usize {
-    if c.len() < at {
-        return at;
-    }
-    if c.len() - at < text {
-        return at;
-    }
-    let number = nonce(n);
-    let middle = at + text;
-    ocb::seal(s, &number, ad, &mut c[at..middle], tag);
-    put(tag, c, middle)
+    results: &mut impl Write,
+) -> io::Result<()>
+    requires { text ≤ 128 }
+{
+    let mut zeros = [0u8; 128];
+    let text = &mut zeros[..text];
+    ocb::seal(s, &nonce(n), ad, text, tag);
+    results.write_all(text)?;
+    results.write_all(tag)
 }
 
-// All but the last seal, into c, which is zero: gives how many bytes their results take.
-fn seal_all(s: State, zeros: &[u8], tag: &mut [u8], c: &mut [u8]) -> usize {
-    if zeros.len() < 128 {
-        return 0;
+// All but the last seal.
+fn seal_all(s: State, tag: &mut [u8], results: &mut impl Write) -> io::Result<()> {
+    let zeros = [0u8; 128];
+    for i in 0..128u16 {
+        let k = i as usize;
+        seal_next(s, 3 * i + 1, &zeros[..k], k, tag, results)?;
+        seal_next(s, 3 * i + 2, &[], k, tag, results)?;
+        seal_next(s, 3 * i + 3, &zeros[..k], 0, tag, results)?;
     }
-    let mut at: usize = 0;
-    let mut i = 0;
-    while i < 128 {
-        at = seal_next(s, 3 * i + 1, &zeros[..i], i, tag, c, at);
-        at = seal_next(s, 3 * i + 2, &zeros[..0], i, tag, c, at);
-        at = seal_next(s, 3 * i + 3, &zeros[..i], 0, tag, c, at);
-        i += 1;
-    }
-    at
+    Ok(())
 }
 
 // Runs the whole test with a key as long as the one lent, which is zero, and tags as long as the place lent, of at most 16 bytes. Leaves there the tag
 // of the last seal, which has no text.
-pub fn run(key: &mut [u8], tag: &mut [u8]) {
+pub fn run(key: &mut [u8], tag: &mut [u8]) -> io::Result<()> {
     let t = tag.len();
     if 16 < t {
-        return;
+        return Ok(());
     }
-    if key.len() == 0 {
-        return;
-    }
-    let last = key.len() - 1;
-    key[last] = (8 * t) as u8;
-    let u = ocb::set_up(key, 11);
-    let s = u.state;
-    let zeros = [0u8; 128];
+    let Some(last) = key.last_mut() else {
+        return Ok(());
+    };
+    *last = (8 * t) as u8;
+    let s = ocb::set_up(key, 11).state;
     let mut results = [0u8; 22400];
-    let n = seal_all(s, &zeros, tag, &mut results);
-    if 22400 < n {
-        return;
+    let mut written = Cursor::new(&mut results[..]);
+    seal_all(s, tag, &mut written)?;
+    let n = written.position() as usize;
+    if let Some(results) = results.get(..n) {
+        ocb::seal(s, &nonce(385), results, &mut [], tag);
     }
-    let number = nonce(385);
-    let mut none = [0u8; 0];
-    ocb::seal(s, &number, &results[..n], &mut none, tag);
+    Ok(())
 }
