@@ -12,15 +12,9 @@ fn digit(c: u8) -> u8
 
 // Fills out with the bytes that the text spells, two digits each.
 pub fn unhex(text: &[u8], out: &mut [u8]) {
-    let mut i = 0;
-    while i < out.len() {
-        if text.len() / 2 <= i {
-            return;
-        }
-        let high = digit(text[2 * i]);
-        let low = digit(text[2 * i + 1]);
-        out[i] = high * 16 + low;
-        i += 1;
+    let (pairs, _) = text.as_chunks::<2>();
+    for (byte, [high, low]) in out.iter_mut().zip(pairs) {
+        *byte = digit(*high) * 16 + digit(*low);
     }
 }
 

@@ -9,7 +9,7 @@ ghost use Rattle.sizes.specs.Sizes.{Rounds};
 use aes::Cipher;
 use sizes::{ROUND_KEY_BYTES, ROUNDS_128, RoundKeys};
 use std::io;
-use vectors::{Case, Four, Key, Schedule};
+use vectors::{Case, Key, Schedule};
 
 // Of the longest schedule.
 const WORDS: usize = ROUND_KEY_BYTES / 4;
@@ -51,120 +51,78 @@ fn deciphers(c: Case) -> bool {
     check::same(&made, &c.plain)
 }
 
-// How many of a list agree, and which is the first that does not, counted from 1; 0 where all agree.
-#[derive(Clone, Copy)]
-struct Tally {
-    right: usize,
-    wrong: usize,
-}
-
-fn count(good: &[bool]) -> Tally {
-    let mut right: usize = 0;
-    let mut wrong: usize = 0;
-    let mut i = 0;
-    while i < good.len() {
-        if good[i] {
-            right += 1;
-        } else if wrong == 0 {
-            wrong = i + 1;
-        }
-        i += 1;
-    }
-    Tally { right, wrong }
-}
-
+// Prints how many of a list agree, and which is the first that does not, counted from 1.
 fn report(rt: &impl Print, name: &str, good: &[bool]) -> io::Result<()> {
-    let t = count(good);
-    let all = good.len();
-    print!(rt; "{name}: {} of {all} agree", t.right)?;
-    if t.wrong != 0 {
-        print!(rt; "; the first that does not is number {}", t.wrong)?;
+    let right = good.iter().filter(|agrees| **agrees).count();
+    print!(rt; "{name}: {right} of {} agree", good.len())?;
+    if let Some(wrong) = good.iter().position(|agrees| !*agrees) {
+        print!(rt; "; the first that does not is number {}", wrong + 1)?;
     }
     println!(rt)
 }
 
 // For each word, whether it is as published, or zero behind a shorter schedule.
 fn same_words(made: RoundKeys, published: RoundKeys) -> [bool; WORDS] {
+    let (made, _) = made.as_chunks::<4>();
+    let (published, _) = published.as_chunks::<4>();
     let mut good = [false; WORDS];
-    let mut i = 0;
-    while i < WORDS {
-        let start = 4 * i;
-        let end = start + 4;
-        good[i] = check::same(&made[start..end], &published[start..end]);
-        i += 1;
+    for (good, (made, published)) in good.iter_mut().zip(made.iter().zip(published)) {
+        *good = made == published;
     }
     good
 }
 
 fn words(rt: &impl Print, name: &str, published: Schedule) -> io::Result<()> {
-    let expected = published.words;
     let expanded = expand(published.key);
-    let keys = expanded.keys;
-    let good = same_words(keys, expected);
+    let good = same_words(expanded.keys, published.words);
     report(rt, name, &good)
 }
 
-fn both_ways(rt: &impl Print, there: &str, back: &str, f: Four) -> io::Result<()> {
-    let enciphered = [
-        enciphers(f.first),
-        enciphers(f.second),
-        enciphers(f.third),
-        enciphers(f.fourth),
-    ];
-    report(rt, there, &enciphered)?;
-    let deciphered = [
-        deciphers(f.first),
-        deciphers(f.second),
-        deciphers(f.third),
-        deciphers(f.fourth),
-    ];
-    report(rt, back, &deciphered)
+fn both_ways(rt: &impl Print, there: &str, back: &str, cases: [Case; 4]) -> io::Result<()> {
+    report(rt, there, &cases.map(enciphers))?;
+    report(rt, back, &cases.map(deciphers))
 }
 
 fn main(rt: HostRuntime) -> io::Result<()> {
-    words(
-        &rt,
-        "FIPS 197, A.1, words of the key schedule, and zeros behind",
-        vectors::fips_197_a_1(),
-    )?;
-    words(
-        &rt,
-        "FIPS 197, A.2, words of the key schedule, and zeros behind",
-        vectors::fips_197_a_2(),
-    )?;
-    words(
-        &rt,
-        "FIPS 197, A.3, words of the key schedule, and zeros behind",
-        vectors::fips_197_a_3(),
-    )?;
-    let examples = Four {
-        first: vectors::fips_197_b(),
-        second: vectors::fips_197_c_1(),
-        third: vectors::fips_197_c_2(),
-        fourth: vectors::fips_197_c_3(),
-    };
-    both_ways(
-        &rt,
-        "FIPS 197, B and C.1 to C.3, enciphered",
-        "FIPS 197, B and C.1 to C.3, deciphered",
-        examples,
-    )?;
-    both_ways(
-        &rt,
-        "NIST SP 800-38A, F.1.1, enciphered",
-        "NIST SP 800-38A, F.1.2, deciphered",
-        vectors::sp_800_38a_128(),
-    )?;
-    both_ways(
-        &rt,
-        "NIST SP 800-38A, F.1.3, enciphered",
-        "NIST SP 800-38A, F.1.4, deciphered",
-        vectors::sp_800_38a_192(),
-    )?;
-    both_ways(
-        &rt,
-        "NIST SP 800-38A, F.1.5, enciphered",
-        "NIST SP 800-38A, F.1.6, deciphered",
-        vectors::sp_800_38a_256(),
-    )
+    for (name, published) in [
+        (
+            "FIPS 197, A.1, words of the key schedule, and zeros behind",
+            vectors::fips_197_a_1(),
+        ),
+        (
+            "FIPS 197, A.2, words of the key schedule, and zeros behind",
+            vectors::fips_197_a_2(),
+        ),
+        (
+            "FIPS 197, A.3, words of the key schedule, and zeros behind",
+            vectors::fips_197_a_3(),
+        ),
+    ] {
+        words(&rt, name, published)?;
+    }
+    for (there, back, cases) in [
+        (
+            "FIPS 197, B and C.1 to C.3, enciphered",
+            "FIPS 197, B and C.1 to C.3, deciphered",
+            vectors::fips_197_b_c(),
+        ),
+        (
+            "NIST SP 800-38A, F.1.1, enciphered",
+            "NIST SP 800-38A, F.1.2, deciphered",
+            vectors::sp_800_38a_128(),
+        ),
+        (
+            "NIST SP 800-38A, F.1.3, enciphered",
+            "NIST SP 800-38A, F.1.4, deciphered",
+            vectors::sp_800_38a_192(),
+        ),
+        (
+            "NIST SP 800-38A, F.1.5, enciphered",
+            "NIST SP 800-38A, F.1.6, deciphered",
+            vectors::sp_800_38a_256(),
+        ),
+    ] {
+        both_ways(&rt, there, back, cases)?;
+    }
+    Ok(())
 }

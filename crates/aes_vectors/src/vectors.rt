@@ -96,48 +96,34 @@ fn read_case(text: &[u8], plain: &[u8; 32], cipher: &[u8; 32]) -> Case {
     }
 }
 
-// FIPS 197, appendix B.
-pub fn fips_197_b() -> Case {
-    read_case(
-        b"2b7e151628aed2a6abf7158809cf4f3c",
-        b"3243f6a8885a308d313198a2e0370734",
-        b"3925841d02dc09fbdc118597196a0b32",
-    )
-}
-
-// FIPS 197, appendix C.1.
-pub fn fips_197_c_1() -> Case {
-    read_case(
-        b"000102030405060708090a0b0c0d0e0f",
-        b"00112233445566778899aabbccddeeff",
-        b"69c4e0d86a7b0430d8cdb78070b4c55a",
-    )
-}
-
-// FIPS 197, appendix C.2.
-pub fn fips_197_c_2() -> Case {
-    read_case(
-        b"000102030405060708090a0b0c0d0e0f1011121314151617",
-        b"00112233445566778899aabbccddeeff",
-        b"dda97ca4864cdfe06eaf70a0ec0d7191",
-    )
-}
-
-// FIPS 197, appendix C.3.
-pub fn fips_197_c_3() -> Case {
-    read_case(
-        b"000102030405060708090a0b0c0d0e0f101112131415161718191a1b1c1d1e1f",
-        b"00112233445566778899aabbccddeeff",
-        b"8ea2b7ca516745bfeafc49904b496089",
-    )
-}
-
-#[derive(Clone, Copy)]
-pub struct Four {
-    pub first: Case,
-    pub second: Case,
-    pub third: Case,
-    pub fourth: Case,
+// FIPS 197, appendix B and C.1 to C.3.
+pub fn fips_197_b_c() -> [Case; 4] {
+    [
+        // B
+        read_case(
+            b"2b7e151628aed2a6abf7158809cf4f3c",
+            b"3243f6a8885a308d313198a2e0370734",
+            b"3925841d02dc09fbdc118597196a0b32",
+        ),
+        // C.1
+        read_case(
+            b"000102030405060708090a0b0c0d0e0f",
+            b"00112233445566778899aabbccddeeff",
+            b"69c4e0d86a7b0430d8cdb78070b4c55a",
+        ),
+        // C.2
+        read_case(
+            b"000102030405060708090a0b0c0d0e0f1011121314151617",
+            b"00112233445566778899aabbccddeeff",
+            b"dda97ca4864cdfe06eaf70a0ec0d7191",
+        ),
+        // C.3
+        read_case(
+            b"000102030405060708090a0b0c0d0e0f101112131415161718191a1b1c1d1e1f",
+            b"00112233445566778899aabbccddeeff",
+            b"8ea2b7ca516745bfeafc49904b496089",
+        ),
+    ]
 }
 
 // NIST SP 800-38A, F.1: the four blocks that it has enciphered under each key.
@@ -147,17 +133,17 @@ fn ecb(
     second: &[u8; 32],
     third: &[u8; 32],
     fourth: &[u8; 32],
-) -> Four {
-    Four {
-        first: read_case(text, b"6bc1bee22e409f96e93d7e117393172a", first),
-        second: read_case(text, b"ae2d8a571e03ac9c9eb76fac45af8e51", second),
-        third: read_case(text, b"30c81c46a35ce411e5fbc1191a0a52ef", third),
-        fourth: read_case(text, b"f69f2445df4f9b17ad2b417be66c3710", fourth),
-    }
+) -> [Case; 4] {
+    [
+        read_case(text, b"6bc1bee22e409f96e93d7e117393172a", first),
+        read_case(text, b"ae2d8a571e03ac9c9eb76fac45af8e51", second),
+        read_case(text, b"30c81c46a35ce411e5fbc1191a0a52ef", third),
+        read_case(text, b"f69f2445df4f9b17ad2b417be66c3710", fourth),
+    ]
 }
 
 // F.1.1 (ECB-AES128.Encrypt) and F.1.2 (ECB-AES128.Decrypt).
-pub fn sp_800_38a_128() -> Four {
+pub fn sp_800_38a_128() -> [Case; 4] {
     ecb(
         b"2b7e151628aed2a6abf7158809cf4f3c",
         b"3ad77bb40d7a3660a89ecaf32466ef97",
@@ -168,7 +154,7 @@ pub fn sp_800_38a_128() -> Four {
 }
 
 // F.1.3 (ECB-AES192.Encrypt) and F.1.4 (ECB-AES192.Decrypt).
-pub fn sp_800_38a_192() -> Four {
+pub fn sp_800_38a_192() -> [Case; 4] {
     ecb(
         b"8e73b0f7da0e6452c810f32b809079e562f8ead2522c6b7b",
         b"bd334f1d6e45f25ff712a214571fa5cc",
@@ -179,7 +165,7 @@ pub fn sp_800_38a_192() -> Four {
 }
 
 // F.1.5 (ECB-AES256.Encrypt) and F.1.6 (ECB-AES256.Decrypt).
-pub fn sp_800_38a_256() -> Four {
+pub fn sp_800_38a_256() -> [Case; 4] {
     ecb(
         b"603deb1015ca71be2b73aef0857d77811f352c073b6108d72d9810a30914dff4",
         b"f3eed1bdb5d2a03c064b5a7e3db181f8",
