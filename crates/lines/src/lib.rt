@@ -1,5 +1,6 @@
 // An answer as text, put into a lent buffer from a place on: bytes as they are, numbers in decimal, bytes in hex. Each function gives the place behind what it
-// put.
+// put. The buffer and the place are no struct: of a buffer behind a field it is not known that it keeps its length, and each method would have to promise that
+// and that it keeps the reference.
 #![tactic(auto)]
 
 ghost use Rattle.std.specs.Prelude.{◌≡◌, ◌+◌, ◌*◌, ◌≤◌, ◌<◌, length};
@@ -15,7 +16,7 @@ pub fn put(out: &mut [u8], at: usize, s: &[u8]) -> usize
     at + s.len()
 }
 
-// The hex digit of a number below 16.
+// The hex digit of a number below 16. `char::from_digit` gives a char or none, which is no plainer.
 fn glyph(n: u8) -> u8
     requires { n < 16 }
     ensures { result ≡ hex_digit_ascii n }
@@ -28,15 +29,12 @@ fn put_hex(out: &mut [u8], at: usize, s: &[u8]) -> usize
     requires { at + 2 * length s.now ≤ length out.old }
     ensures { Puts out.old at (hex s.now) result out.new }
 {
-    let mut i = 0;
-    while i < s.len() {
-        let b = s[i];
+    for (i, b) in s.iter().enumerate() {
         let place = at + 2 * i;
         out[place] = glyph(b / 16);
         out[place + 1] = glyph(b % 16);
-        i += 1;
     }
-    at + 2 * i
+    at + 2 * s.len()
 }
 
 // Puts n in decimal.
