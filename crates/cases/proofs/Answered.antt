@@ -11,11 +11,12 @@ use lib.ListN.{length}
 use Rattle.ocb.specs.declared.Answer.{Answer}
 use Rattle.cases.specs.Case.{word, Lengths, lengths, bodies, Decoded, bad, good, decode}
 use Rattle.cases.specs.Places.{places, found, case_at, Within, Room}
-use Rattle.cases.specs.Replies.{Lays, room, laid, result_of, Left}
+use Rattle.cases.specs.Replies.{Lays, Replied, room, laid, result_of, Left}
 use Rattle.cases.specs.declared.table.Table.{Table}
-use Rattle.cases.specs.declared.table.Found.TheVariants.{Bad}
-use Rattle.cases.specs.declared.Reply.{Reply}
-use Rattle.cases.specs.declared.Reply.TheVariants as reply
+use Rattle.cases.specs.declared.NoReply.{NoReply}
+use Rattle.cases.specs.declared.NoReply.TheVariants.{Bad, NoRoom}
+use Rattle.std.specs.Option.{ok_or}
+use Rattle.std.specs.Prelude.{Option, None, Some, Result, Ok, Err}
 use Rattle.cases.proofs.Placed.{Placed, is_bad}
 use Rattle.cases.proofs.Laid.{body_length}
 
@@ -56,10 +57,15 @@ decoded_good S t p =
     ap (λ (b : Bool). cond b bad (good (bodies S (lengths S)))) p.well
     ∙ ap good (same_bodies S (lengths S) ∙ ap (case_at S) (sym p.is))
 
-pub answered_bad : (S text tag : List ℕ) → Bad ≡ found S → Left (result_of (decode S) text tag) reply.Bad text tag
+-- what find does not find is refused as bad
+pub refused : (x : Option Table) {e : NoReply} → ◌≡◌ {A = Result Table NoReply} (Err e) (ok_or x Bad) → x ≡ None → e ≡ Bad
+refused None h none = cc
+refused (Some t) h none = absurd (let z : ◌≡◌ {A = ℕ} 0 1 = cc in omega arith)
+
+pub answered_bad : (S text tag : List ℕ) → None ≡ found S → Left (result_of (decode S) text tag) (Err Bad) text tag
 unfolding decode result_of
 answered_bad S text tag e =
-    subst (λ (b : Bool). Left (result_of (cond b bad (good (bodies S (lengths S)))) text tag) reply.Bad text tag) (sym (is_bad S e))
+    subst (λ (b : Bool). Left (result_of (cond b bad (good (bodies S (lengths S)))) text tag) (Err Bad) text tag) (sym (is_bad S e))
     (record { reply = refl; text_left = refl; tag_left = refl })
 
 module _ {S : List ℕ} {t : Table} (p : Placed S t) (text tag : List ℕ) where
@@ -69,25 +75,25 @@ module _ {S : List ℕ} {t : Table} (p : Placed S t) (text tag : List ℕ) where
   tag_size : length (case_at S t).tag ≡ t.end - t.tag
   tag_size = let w = within p in body_length S t.tag (t.end - t.tag) (omega arith)
 
-  by_room : (b : Bool) {r : Reply} {text' tag' : List ℕ} → room (case_at S t) text tag ≡ b
-      → Left (cond b (laid (case_at S t) text tag) (record { reply = reply.NoRoom; text = text; tag = tag })) r text' tag'
+  by_room : (b : Bool) {r : Replied} {text' tag' : List ℕ} → room (case_at S t) text tag ≡ b
+      → Left (cond b (laid (case_at S t) text tag) (record { reply = Err NoRoom; text = text; tag = tag })) r text' tag'
       → Left (result_of (decode S) text tag) r text' tag'
   unfolding result_of
   by_room b {r} {text'} {tag'} e L =
       subst (λ (d : Decoded). Left (result_of d text tag) r text' tag') (sym (decoded_good S t p))
-      (subst (λ (x : Bool). Left (cond x (laid (case_at S t) text tag) (record { reply = reply.NoRoom; text = text; tag = tag })) r text' tag') (sym e) L)
+      (subst (λ (x : Bool). Left (cond x (laid (case_at S t) text tag) (record { reply = Err NoRoom; text = text; tag = tag })) r text' tag') (sym e) L)
 
-  no_room : room (case_at S t) text tag ≡ false → Left (result_of (decode S) text tag) reply.NoRoom text tag
+  no_room : room (case_at S t) text tag ≡ false → Left (result_of (decode S) text tag) (Err NoRoom) text tag
   no_room e = by_room false e (record { reply = refl; text_left = refl; tag_left = refl })
 
-  pub no_text_room : length text < t.tag - t.text → Left (result_of (decode S) text tag) reply.NoRoom text tag
+  pub no_text_room : length text < t.tag - t.text → Left (result_of (decode S) text tag) (Err NoRoom) text tag
   no_text_room h = no_room (let e = lt-leb (length (case_at S t).text) (length text) (omega (arith, text_size)) in rw e)
 
-  pub no_tag_room : length tag < t.end - t.tag → Left (result_of (decode S) text tag) reply.NoRoom text tag
+  pub no_tag_room : length tag < t.end - t.tag → Left (result_of (decode S) text tag) (Err NoRoom) text tag
   no_tag_room h = no_room (let e = lt-leb (length (case_at S t).tag) (length tag) (omega (arith, tag_size)) in rw e (and-false (leb (length (case_at S t).text) (length text))))
 
   pub answered : {r : Answer} {text' tag' : List ℕ} → Room t text tag → Lays (case_at S t) r text tag text' tag'
-      → Left (result_of (decode S) text tag) (reply.Answered r.number r.calls (t.tag - t.text) (t.end - t.tag)) text' tag'
+      → Left (result_of (decode S) text tag) (Ok (record { number = r.number; calls = r.calls; text = t.tag - t.text; tag = t.end - t.tag })) text' tag'
   answered h L =
       let et = le-leb (length (case_at S t).text) (length text) (omega (arith, text_size)) in
       let eg = le-leb (length (case_at S t).tag) (length tag) (omega (arith, tag_size)) in

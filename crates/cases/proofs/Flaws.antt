@@ -8,8 +8,8 @@ use lib.Dec.{eqb}
 use lib.ListN.{length, get_or}
 use Rattle.cases.specs.Case.{word, total, lengths, flaws, any, malformed}
 use Rattle.cases.specs.Places.{places, found}
-use Rattle.cases.specs.declared.table.Found.{Found}
-use Rattle.cases.specs.declared.table.Found.TheVariants.{Bad, Good}
+use Rattle.cases.specs.declared.table.Table.{Table}
+use Rattle.std.specs.Prelude.{Option, None, Some}
 
 or_left : (a b : Bool) → a ≡ true → a || b ≡ true
 or_left a b e = rw e
@@ -23,9 +23,9 @@ any_at [] i e = e
 any_at (test ∷ tests) zero e = or_left test (any tests) e
 any_at (test ∷ tests) (suc i) e = or_right test (any tests) (any_at tests i e)
 
-pub bad : (S : List ℕ) (i : ℕ) → get_or (flaws S) i false ≡ true → Bad ≡ found S
+pub bad : (S : List ℕ) (i : ℕ) → get_or (flaws S) i false ≡ true → None ≡ found S
 unfolding found malformed
-bad S i e = sym (ap (λ (b : Bool). cond b Bad (Good (places S (lengths S)))) (any_at (flaws S) i e))
+bad S i e = sym (ap (λ (b : Bool). cond b None (Some (places S (lengths S)))) (any_at (flaws S) i e))
 
 -- a case with a table, lengths up to 8,192 each, and as many bytes as they ask for
 pub record Formed (S : List ℕ) : Type 0 where
@@ -44,14 +44,14 @@ formed_well S f =
     simp
     (le-ltb _ _ f.table, le-ltb _ _ f.first, le-ltb _ _ f.key, le-ltb _ _ f.nonce, le-ltb _ _ f.ad, le-ltb _ _ f.text, le-ltb _ _ f.tag, eq-eqb _ _ f.size)
 
-pub good : (S : List ℕ) → Formed S → Good (places S (lengths S)) ≡ found S
+pub good : (S : List ℕ) → Formed S → Some (places S (lengths S)) ≡ found S
 unfolding found
-good S f = sym (ap (λ (b : Bool). cond b Bad (Good (places S (lengths S)))) (formed_well S f))
+good S f = sym (ap (λ (b : Bool). cond b None (Some (places S (lengths S)))) (formed_well S f))
 
 -- the places by the lengths as they were read
 pub placed : (S : List ℕ) {k n a t g : ℕ} → k ≡ word S 2 → n ≡ word S 6 → a ≡ word S 10 → t ≡ word S 14 → g ≡ word S 18
-    → ◌≡◌ {A = Found}
-    (Good (record {
+    → ◌≡◌ {A = Option Table}
+    (Some (record {
       opens = eqb (get_or S 0 0) 1;
       m = get_or S 1 0;
       nonce = 22 + k;
@@ -60,5 +60,5 @@ pub placed : (S : List ℕ) {k n a t g : ℕ} → k ≡ word S 2 → n ≡ word 
       tag = 22 + k + n + a + t;
       end = 22 + k + n + a + t + g;
     }))
-    (Good (places S (lengths S)))
+    (Some (places S (lengths S)))
 placed S ek en ea et eg = cc

@@ -9,8 +9,7 @@ use lib.ListN.{get_or}
 use Rattle.cases.specs.Case.{lengths, flaws, any, malformed}
 use Rattle.cases.specs.Places.{places, found}
 use Rattle.cases.specs.declared.table.Table.{Table}
-use Rattle.cases.specs.declared.table.Found.{Found}
-use Rattle.cases.specs.declared.table.Found.TheVariants.{Bad, Good}
+use Rattle.std.specs.Prelude.{Option, None, Some}
 use Rattle.cases.proofs.Flaws.{Formed}
 
 or_false_left : (a b : Bool) → a || b ≡ false → a ≡ false
@@ -47,22 +46,22 @@ pub record Placed (S : List ℕ) (t : Table) : Type 0 where
   pub is : t ≡ places S (lengths S)
   pub form : Formed S
 
-pub is_bad : (S : List ℕ) → Bad ≡ found S → malformed S ≡ true
+pub is_bad : (S : List ℕ) → None ≡ found S → malformed S ≡ true
 unfolding found
 is_bad S e = go (malformed S) e
   where
-    go : (b : Bool) → Bad ≡ cond b Bad (Good (places S (lengths S))) → b ≡ true
+    go : (b : Bool) → None ≡ cond b None (Some (places S (lengths S))) → b ≡ true
     go true e = refl
     go false e = absurd (let z : ◌≡◌ {A = ℕ} 0 1 = cc in omega arith)
 
-is_good : (S : List ℕ) (t : Table) → Good t ≡ found S → Placed S t
+is_good : (S : List ℕ) (t : Table) → Some t ≡ found S → Placed S t
 unfolding found
 is_good S t e = let w = go (malformed S) e in record { well = w.0; is = w.1; form = formed S w.0 }
   where
-    go : (b : Bool) → Good t ≡ cond b Bad (Good (places S (lengths S))) → (b ≡ false) × (t ≡ places S (lengths S))
+    go : (b : Bool) → Some t ≡ cond b None (Some (places S (lengths S))) → (b ≡ false) × (t ≡ places S (lengths S))
     go true e = absurd (let z : ◌≡◌ {A = ℕ} 0 1 = cc in omega arith)
     go false e = (refl, cc)
 
 -- what was found for S is the table t
-pub found_good : {x : Found} {S : List ℕ} {t : Table} → x ≡ found S → x ≡ Good t → Placed S t
+pub found_good : {x : Option Table} {S : List ℕ} {t : Table} → x ≡ found S → x ≡ Some t → Placed S t
 found_good {x} {S} {t} e is = is_good S t (sym is ∙ e)

@@ -13,9 +13,10 @@ use lib.Seq.{take_at}
 use Rattle.cases.specs.Case.{word, lengths, malformed, bodies, Case, Decoded, bad, good, decode, outcome}
 use Rattle.lines.specs.Text.{lines, Puts}
 use Rattle.cases.specs.Output.{bad_line, output}
-use Rattle.cases.specs.Replies.{front, room, laid, result_of, Left, written, Responds}
+use Rattle.cases.specs.Replies.{front, Replied, room, laid, result_of, Left, written, Responds}
 use Rattle.cases.specs.declared.Reply.{Reply}
-use Rattle.cases.specs.declared.Reply.TheVariants.{Bad, NoRoom, Answered}
+use Rattle.cases.specs.declared.NoReply.TheVariants.{Bad, NoRoom}
+use Rattle.std.specs.Prelude.{Ok, Err}
 use Rattle.cases.proofs.Placed.{formed}
 
 -- ---- no body is longer than 8,192 bytes
@@ -40,43 +41,43 @@ small S c e = go (malformed S) refl e
 
 -- ---- what a reply says
 
--- a reply with numbers n and k, a text of t bytes and a tag of g
-record Gave (d : Decoded) (n k t g : ℕ) (text tag text' tag' : List ℕ) : Type 0 where
+-- the answer a is that to a case
+record Gave (d : Decoded) (a : Reply) (text tag text' tag' : List ℕ) : Type 0 where
   pub case : Case
   pub is : d ≡ good case
-  pub number : n ≡ (outcome case).number
-  pub calls : k ≡ (outcome case).calls
-  pub text_size : t ≡ length case.text
-  pub tag_size : g ≡ length case.tag
+  pub number : a.number ≡ (outcome case).number
+  pub calls : a.calls ≡ (outcome case).calls
+  pub text_size : a.text ≡ length case.text
+  pub tag_size : a.tag ≡ length case.tag
   pub text_left : text' ≡ front (outcome case).text (length case.text) text
   pub tag_left : tag' ≡ front (outcome case).tag (length case.tag) tag
 
 module _ (text tag : List ℕ) {text' tag' : List ℕ} where
-  bad_reply : (d : Decoded) → Left (result_of d text tag) Bad text' tag' → d ≡ bad
+  bad_reply : (d : Decoded) → Left (result_of d text tag) (Err Bad) text' tag' → d ≡ bad
   unfolding result_of
   bad_reply bad L = refl
   bad_reply (good c) L = go (room c text tag) L.reply
     where
-      go : (b : Bool) → Bad ≡ (cond b (laid c text tag) (record { reply = NoRoom; text = text; tag = tag })).reply → good c ≡ bad
+      go : (b : Bool) → ◌≡◌ {A = Replied} (Err Bad) (cond b (laid c text tag) (record { reply = Err NoRoom; text = text; tag = tag })).reply → good c ≡ bad
       go true e = absurd (let z : ◌≡◌ {A = ℕ} 0 1 = cc in omega arith)
       go false e = absurd (let z : ◌≡◌ {A = ℕ} 0 1 = cc in omega arith)
 
-  no_room_reply : (d : Decoded) → ((c : Case) → d ≡ good c → room c text tag ≡ true) → Left (result_of d text tag) NoRoom text' tag' → ⊥
+  no_room_reply : (d : Decoded) → ((c : Case) → d ≡ good c → room c text tag ≡ true) → Left (result_of d text tag) (Err NoRoom) text' tag' → ⊥
   unfolding result_of
   no_room_reply bad roomy L = let e = L.reply in let z : ◌≡◌ {A = ℕ} 0 1 = cc in omega arith
   no_room_reply (good c) roomy L = go (room c text tag) (roomy c refl) L.reply
     where
-      go : (b : Bool) → b ≡ true → NoRoom ≡ (cond b (laid c text tag) (record { reply = NoRoom; text = text; tag = tag })).reply → ⊥
+      go : (b : Bool) → b ≡ true → ◌≡◌ {A = Replied} (Err NoRoom) (cond b (laid c text tag) (record { reply = Err NoRoom; text = text; tag = tag })).reply → ⊥
       go true h e = let z : ◌≡◌ {A = ℕ} 0 1 = cc in omega arith
       go false h e = let z : ◌≡◌ {A = ℕ} 0 1 = cc in omega arith
 
-  answer_reply : (d : Decoded) {n k t g : ℕ} → Left (result_of d text tag) (Answered n k t g) text' tag' → Gave d n k t g text tag text' tag'
+  answer_reply : (d : Decoded) {a : Reply} → Left (result_of d text tag) (Ok a) text' tag' → Gave d a text tag text' tag'
   unfolding result_of
   answer_reply bad L = let e = L.reply in absurd (let z : ◌≡◌ {A = ℕ} 0 1 = cc in omega arith)
-  answer_reply (good c) {n} {k} {t} {g} L = go (room c text tag) L
+  answer_reply (good c) {a} L = go (room c text tag) L
     where
-      go : (b : Bool) → Left (cond b (laid c text tag) (record { reply = NoRoom; text = text; tag = tag })) (Answered n k t g) text' tag'
-          → Gave (good c) n k t g text tag text' tag'
+      go : (b : Bool) → Left (cond b (laid c text tag) (record { reply = Err NoRoom; text = text; tag = tag })) (Ok a) text' tag'
+          → Gave (good c) a text tag text' tag'
       go true L =
           let e = L.reply in
           record { case = c; is = refl; number = cc; calls = cc; text_size = cc; tag_size = cc; text_left = L.text_left; tag_left = L.tag_left }
@@ -111,32 +112,32 @@ blank : length (zeros 8192) ≡ 8192
 blank = length-replicate {A = ℕ} 8192 0
 
 -- answer, with blank buffers, replied x to the case S
-module _ (S : List ℕ) {x : Reply} {text' tag' : List ℕ} (left : Left (result_of (decode S) (zeros 8192) (zeros 8192)) x text' tag') where
-  replied : {y : Reply} → x ≡ y → Left (result_of (decode S) (zeros 8192) (zeros 8192)) y text' tag'
-  replied e = subst (λ (r : Reply). Left (result_of (decode S) (zeros 8192) (zeros 8192)) r text' tag') e left
+module _ (S : List ℕ) {x : Replied} {text' tag' : List ℕ} (left : Left (result_of (decode S) (zeros 8192) (zeros 8192)) x text' tag') where
+  replied : {y : Replied} → x ≡ y → Left (result_of (decode S) (zeros 8192) (zeros 8192)) y text' tag'
+  replied e = subst (λ (r : Replied). Left (result_of (decode S) (zeros 8192) (zeros 8192)) r text' tag') e left
 
-  pub told_bad : x ≡ Bad → decode S ≡ bad
+  pub told_bad : x ≡ Err Bad → decode S ≡ bad
   told_bad e = bad_reply (zeros 8192) (zeros 8192) (decode S) (replied e)
 
-  pub shown_bad : x ≡ Bad → bad_line ≡ output (decode S)
+  pub shown_bad : x ≡ Err Bad → bad_line ≡ output (decode S)
   unfolding output
   shown_bad e = sym (ap output (told_bad e))
 
-  pub has_room : x ≡ NoRoom → ⊥
+  pub has_room : x ≡ Err NoRoom → ⊥
   has_room e =
       no_room_reply (zeros 8192) (zeros 8192) (decode S)
       (λ c h. let s = small S c h in
       let et = le-leb (length c.text) (length (zeros 8192)) (omega (arith, blank)) in
       let eg = le-leb (length c.tag) (length (zeros 8192)) (omega (arith, blank)) in rw (et, eg)) (replied e)
 
-  module _ {n k t g : ℕ} (e : x ≡ Answered n k t g) where
-    gave : Gave (decode S) n k t g (zeros 8192) (zeros 8192) text' tag'
+  module _ {a : Reply} (e : x ≡ Ok a) where
+    gave : Gave (decode S) a (zeros 8192) (zeros 8192) text' tag'
     gave = answer_reply (zeros 8192) (zeros 8192) (decode S) (replied e)
 
-    pub sizes : (t ≤ 8192) × (g ≤ 8192)
+    pub sizes : (a.text ≤ 8192) × (a.tag ≤ 8192)
     sizes = let s = small S gave.case gave.is in (omega (arith, gave.text_size), omega (arith, gave.tag_size))
 
-    pub told : length text' ≡ 8192 → length tag' ≡ 8192 → Told (decode S) n k (take t text') (take g tag')
+    pub told : length text' ≡ 8192 → length tag' ≡ 8192 → Told (decode S) a.number a.calls (take a.text text') (take a.tag tag')
     told st sg =
         let s = small S gave.case gave.is in
         let o = outcome gave.case in

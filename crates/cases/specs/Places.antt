@@ -1,9 +1,7 @@
--- What table::find finds: bad, or where the bodies of a case begin and end.
-use Rattle.std.specs.Prelude.{cond, List, ◌≡◌, ℕ, ◌+◌, ◌-◌, ◌≤◌, eqb, length, get_or}
+-- What table::find finds: nothing in a bad case, or where the bodies of a case begin and end.
+use Rattle.std.specs.Prelude.{cond, List, ◌≡◌, ℕ, ◌+◌, ◌-◌, ◌≤◌, eqb, length, get_or, Option, None, Some}
 use Rattle.cases.specs.Case.{Lengths, lengths, malformed, Case, body}
 use Rattle.cases.specs.declared.table.Table.{Table}
-use Rattle.cases.specs.declared.table.Found.{Found}
-use Rattle.cases.specs.declared.table.Found.TheVariants.{Bad, Good}
 
 abbrev pub places : List ℕ → Lengths → Table
 places S l = record {
@@ -16,8 +14,8 @@ places S l = record {
   end = 22 + l.key + l.nonce + l.ad + l.text + l.tag;
 }
 
-unfoldable pub found : List ℕ → Found
-found S = cond (malformed S) Bad (Good (places S (lengths S)))
+unfoldable pub found : List ℕ → Option Table
+found S = cond (malformed S) None (Some (places S (lengths S)))
 
 -- the case whose bodies are at the places of t
 abbrev pub case_at : List ℕ → Table → Case

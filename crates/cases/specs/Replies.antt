@@ -1,11 +1,13 @@
 -- What the entry points leave in the buffers lent to them, for each thing that a case may be decoded to.
-use Rattle.std.specs.Prelude.{◌≡◌, Bool, cond, ◌&&◌, List, [], ◌++◌, ℕ, leb, length, drop}
+use Rattle.std.specs.Prelude.{◌≡◌, Bool, cond, ◌&&◌, List, [], ◌++◌, ℕ, leb, length, drop, Ok, Err}
+use Rattle.std.specs.declared.result.Result as std
 use Rattle.ocb.specs.declared.Answer.{Answer}
 use Rattle.cases.specs.Case.{Case, Decoded, bad, good, outcome}
 use Rattle.lines.specs.Text.{over}
 use Rattle.cases.specs.Output.{output}
 use Rattle.cases.specs.declared.Reply.{Reply}
-use Rattle.cases.specs.declared.Reply.TheVariants.{Bad, NoRoom, Answered}
+use Rattle.cases.specs.declared.NoReply.{NoReply}
+use Rattle.cases.specs.declared.NoReply.TheVariants.{Bad, NoRoom}
 
 -- ---- answer
 
@@ -20,8 +22,12 @@ pub record Lays (c : Case) (r : Answer) (text tag text' tag' : List ℕ) : Type 
   pub text_left : text' ≡ front (outcome c).text (length c.text) text
   pub tag_left : tag' ≡ front (outcome c).tag (length c.tag) tag
 
+-- what is replied: an answer, or why there is none
+abbrev pub Replied : Type 0
+Replied = std.Result Reply NoReply
+
 pub record Result : Type 0 where
-  pub reply : Reply
+  pub reply : Replied
   pub text : List ℕ
   pub tag : List ℕ
 
@@ -31,17 +37,17 @@ room c text tag = leb (length c.text) (length text) && leb (length c.tag) (lengt
 
 abbrev pub laid : Case → List ℕ → List ℕ → Result
 laid c text tag = record {
-  reply = Answered (outcome c).number (outcome c).calls (length c.text) (length c.tag);
+  reply = Ok (record { number = (outcome c).number; calls = (outcome c).calls; text = length c.text; tag = length c.tag });
   text = front (outcome c).text (length c.text) text;
   tag = front (outcome c).tag (length c.tag) tag;
 }
 
 unfoldable pub result_of : Decoded → List ℕ → List ℕ → Result
-result_of bad text tag = record { reply = Bad; text = text; tag = tag }
-result_of (good c) text tag = cond (room c text tag) (laid c text tag) (record { reply = NoRoom; text = text; tag = tag })
+result_of bad text tag = record { reply = Err Bad; text = text; tag = tag }
+result_of (good c) text tag = cond (room c text tag) (laid c text tag) (record { reply = Err NoRoom; text = text; tag = tag })
 
 -- the reply r, and the buffers that are left, are the result's
-pub record Left (x : Result) (r : Reply) (text tag : List ℕ) : Type 0 where
+pub record Left (x : Result) (r : Replied) (text tag : List ℕ) : Type 0 where
   pub reply : r ≡ x.reply
   pub text_left : text ≡ x.text
   pub tag_left : tag ≡ x.tag

@@ -1,5 +1,6 @@
 // The table of contents of a case: its first 22 bytes.
-ghost use Rattle.std.specs.Prelude.{◌≡◌};
+ghost use Rattle.std.specs.Prelude.{◌≡◌, ◌+◌, ◌≤◌, ◌<◌, length, MatchOption};
+ghost use Rattle.cases.specs.Case.{word};
 ghost use Rattle.cases.specs.Places.{found};
 
 // Whether to open, m, and where each body behind the key begins. The key begins at 22, and the last body ends at end.
@@ -14,58 +15,43 @@ pub struct Table {
     pub end: usize,
 }
 
-// What a case is: of bad form, or with its bodies at the places of a table.
-#[derive(Clone, Copy)]
-pub enum Found {
-    Bad,
-    Good(Table),
+// The length of a body, in four bytes from place at on; none where it is above 8,192.
+fn body_length(case: &[u8], at: usize) -> Option<usize>
+    requires { at + 4 ≤ length case.now }
+    ensures { MatchOption result (8192 < word case.now at) (λ n. (n ≡ word case.now at) × (n ≤ 8192)) }
+{
+    let n = block::load_le32(case, at);
+    if 8192 < n {
+        return None;
+    }
+    Some(n)
 }
 
-// Reads the table and holds it to the bytes that there are.
-pub fn find(case: &[u8]) -> Found
+// Reads the table and holds it to the bytes that there are; none where the case is of bad form.
+pub fn find(case: &[u8]) -> Option<Table>
     ensures { result ≡ found case.now }
 {
     if case.len() < 22 {
-        return Found::Bad;
+        return None;
     }
     if 1 < case[0] {
-        return Found::Bad;
+        return None;
     }
-    let key = block::load_le32(case, 2);
-    if 8192 < key {
-        return Found::Bad;
-    }
-    let nonce = block::load_le32(case, 6);
-    if 8192 < nonce {
-        return Found::Bad;
-    }
-    let ad = block::load_le32(case, 10);
-    if 8192 < ad {
-        return Found::Bad;
-    }
-    let text = block::load_le32(case, 14);
-    if 8192 < text {
-        return Found::Bad;
-    }
-    let tag = block::load_le32(case, 18);
-    if 8192 < tag {
-        return Found::Bad;
-    }
-    let nonce_at = 22 + key;
-    let ad_at = nonce_at + nonce;
-    let text_at = ad_at + ad;
-    let tag_at = text_at + text;
-    let end = tag_at + tag;
+    let nonce = 22 + body_length(case, 2)?;
+    let ad = nonce + body_length(case, 6)?;
+    let text = ad + body_length(case, 10)?;
+    let tag = text + body_length(case, 14)?;
+    let end = tag + body_length(case, 18)?;
     if case.len() != end {
-        return Found::Bad;
+        return None;
     }
-    Found::Good(Table {
+    Some(Table {
         opens: case[0] == 1,
         m: case[1] as usize,
-        nonce: nonce_at,
-        ad: ad_at,
-        text: text_at,
-        tag: tag_at,
+        nonce: nonce,
+        ad: ad,
+        text: text,
+        tag: tag,
         end: end,
     })
 }

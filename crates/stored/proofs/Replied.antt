@@ -2,10 +2,12 @@
 use mathlib.Core.Path.{◌≡◌, sym, subst}
 use mathlib.Core.Bool.{Bool}
 use mathlib.Core.List.{List}
-use Prim.Native.Nat.{ℕ}
+use Prim.Native.Nat.{ℕ, ◌-◌}
+use native.Mathlib.Omega.{arith}
 use borrow.Author.Tests.{eqb-true, eq-eqb}
 use lib.Dec.{eqb}
-use lib.ListN.{length}
+use lib.ListN.{length, take, drop, length-drop}
+use lib.Seq.{take_all}
 use Rattle.ocb.specs.Answers.{Outcome}
 use Rattle.cases.specs.Case.{Decoded, bad, outcome}
 use Rattle.cases.proofs.Responded.{Told}
@@ -24,3 +26,7 @@ pub owed_good : (S : List ℕ) {r : Bool} {d : Decoded} {n k : ℕ} {text tag : 
 owed_good S {r} w tells =
     subst (λ (x : Decoded). Decides r (Owed x S)) (sym w.is)
     (subst (λ (o : Outcome). Decides r (Tells S o)) (whole (outcome w.case) w.number w.calls w.text_is w.tag_is) tells)
+
+-- what is left from place k on, by its length
+pub rest : (k : ℕ) (S : List ℕ) → take (length S - k) (drop k S) ≡ drop k S
+rest k S = take_all (length S - k) (drop k S) (simp length-drop (omega arith))

@@ -5,24 +5,20 @@ ghost use Rattle.cases.specs.Case.{decode};
 ghost use Rattle.ocb_c.specs.Lent.{read_in, added_in};
 ghost use Rattle.stored.specs.Stored.{Tells, Owed, under, TellsFile, TellsRead, TellsAdd, Decides};
 
-use cases::Reply;
+use cases::NoReply;
 
 // The stored bytes tell this number, count, text and tag, and nothing else.
 fn tells(stored: &[u8], number: usize, calls: usize, text: &[u8], tag: &[u8]) -> bool
     ensures { Decides result (Tells stored.now (record { number = number; calls = calls; text = text.now; tag = tag.now })) }
 {
     let n = text.len();
-    if stored.len() < 5 {
+    if stored.len() < 5 || stored.len() - 5 < n {
         return false;
     }
-    if stored.len() - 5 < n {
-        return false;
-    }
-    let end = 5 + n;
     let same_number = stored[0] as usize == number;
     let same_calls = cases::number_at(stored, 1) == calls;
-    let same_text = check::same(&stored[5..end], text);
-    let same_tag = check::same(&stored[end..], tag);
+    let same_text = &stored[5..5 + n] == text;
+    let same_tag = &stored[5 + n..] == tag;
     same_number & same_calls & same_text & same_tag
 }
 
@@ -33,14 +29,9 @@ pub fn agrees(case: &[u8], stored: &[u8]) -> bool
     let mut text = [0u8; 8192];
     let mut tag = [0u8; 8192];
     match cases::answer(case, &mut text, &mut tag) {
-        Reply::Bad => stored.len() == 0,
-        Reply::NoRoom => false,
-        Reply::Answered {
-            number,
-            calls,
-            text: texts,
-            tag: tags,
-        } => tells(stored, number, calls, &text[..texts], &tag[..tags]),
+        Ok(a) => tells(stored, a.number, a.calls, &text[..a.text], &tag[..a.tag]),
+        Err(NoReply::Bad) => stored.is_empty(),
+        Err(NoReply::NoRoom) => false,
     }
 }
 
@@ -58,11 +49,11 @@ pub fn agrees_under(
         (under opens state.now nonce.now ad.now text.old tag.old)) }
 {
     let mut calls = 0;
-    if opens {
-        let number = ocb_c::ocb_open(state, nonce, ad, text, tag, &mut calls);
-        return tells(stored, number, calls, text, tag);
-    }
-    let number = ocb_c::ocb_seal(state, nonce, ad, text, tag, &mut calls);
+    let number = if opens {
+        ocb_c::ocb_open(state, nonce, ad, text, tag, &mut calls)
+    } else {
+        ocb_c::ocb_seal(state, nonce, ad, text, tag, &mut calls)
+    };
     tells(stored, number, calls, text, tag)
 }
 
@@ -78,7 +69,7 @@ fn tells_file(stored: &[u8], number: usize, calls: usize, size: usize, left: &[u
     let same_number = stored[0] as usize == number;
     let same_calls = block::load_le32(stored, 1) == calls;
     let same_size = low + high * 4294967296 == size;
-    let same_left = check::same(&stored[13..], left);
+    let same_left = &stored[13..] == left;
     same_number & same_calls & same_size & same_left
 }
 

@@ -1,9 +1,8 @@
--- `cases::table::find` meets its contract: each test that returns early is a flaw, and without any the places are those of the lengths read.
--- Assumes nothing.
-use mathlib.Core.Path.{ap, subst, ◌∙◌}
+-- `cases::table::find` meets its contract: each early return is at a flaw, and without any the places are those of the lengths read. Assumes nothing.
+use mathlib.Core.Path.{ap, ◌∙◌}
 use mathlib.Core.Bool.{not}
 use mathlib.Core.List.{List}
-use Prim.Native.Nat.{ℕ, ◌<◌}
+use Prim.Native.Nat.{ℕ}
 use native.Mathlib.Omega.{arith}
 use borrow.Author.Tests.{lt-ltb, ne_eqb}
 use lib.ListN.{length}
@@ -17,43 +16,47 @@ returns-then-case-lt22 c = bad _ 0 (lt-ltb _ _ c.if-case-lt22.true)
 pub returns-then-case-gt1 : goal.returns-then-case-gt1
 returns-then-case-gt1 c = bad _ 1 (lt-ltb _ _ c.if-case-gt1.true)
 
-pub returns-then-key-gt8192 : goal.returns-then-key-gt8192
-returns-then-key-gt8192 c =
-    let e = c.load_le32-key.ensures.0 in bad _ 2 (lt-ltb _ _ (subst (λ (x : ℕ). 8192 < x) e c.if-key-gt8192.true))
+pub returns-in_err-nonce : goal.returns-in_err-nonce
+returns-in_err-nonce c = c.from_residual.ensures ∙ bad _ 2 (lt-ltb _ _ c.in_err-nonce.ensures)
 
-pub returns-then-nonce-gt8192 : goal.returns-then-nonce-gt8192
-returns-then-nonce-gt8192 c =
-    let e = c.load_le32-nonce.ensures.0 in bad _ 3 (lt-ltb _ _ (subst (λ (x : ℕ). 8192 < x) e c.if-nonce-gt8192.true))
+pub returns-in_err-ad : goal.returns-in_err-ad
+returns-in_err-ad c = c.from_residual-in_err-ad.ensures ∙ bad _ 3 (lt-ltb _ _ c.in_err-ad.ensures)
 
-pub returns-then-ad-gt8192 : goal.returns-then-ad-gt8192
-returns-then-ad-gt8192 c =
-    let e = c.load_le32-ad.ensures.0 in bad _ 4 (lt-ltb _ _ (subst (λ (x : ℕ). 8192 < x) e c.if-ad-gt8192.true))
+pub returns-in_err-text : goal.returns-in_err-text
+returns-in_err-text c = c.from_residual-in_err-text.ensures ∙ bad _ 4 (lt-ltb _ _ c.in_err-text.ensures)
 
-pub returns-then-text-gt8192 : goal.returns-then-text-gt8192
-returns-then-text-gt8192 c =
-    let e = c.load_le32-text.ensures.0 in bad _ 5 (lt-ltb _ _ (subst (λ (x : ℕ). 8192 < x) e c.if-text-gt8192.true))
+pub returns-in_err-tag : goal.returns-in_err-tag
+returns-in_err-tag c = c.from_residual-in_err-tag.ensures ∙ bad _ 5 (lt-ltb _ _ c.in_err-tag.ensures)
 
-pub returns-then-tag-gt8192 : goal.returns-then-tag-gt8192
-returns-then-tag-gt8192 c =
-    let e = c.load_le32-tag.ensures.0 in bad _ 6 (lt-ltb _ _ (subst (λ (x : ℕ). 8192 < x) e c.if-tag-gt8192.true))
+pub returns-in_err-end : goal.returns-in_err-end
+returns-in_err-end c = c.from_residual-in_err-end.ensures ∙ bad _ 6 (lt-ltb _ _ c.in_err-end.ensures)
 
 pub returns-then-case-end : goal.returns-then-case-end
 returns-then-case-end c =
     let S : List ℕ = c.args.case.now in
-    bad S 7 (ap not (ne_eqb (length S) (total (lengths S)) (λ e. omega arith)))
+    let k = c.in_ok-nonce.ensures.0 in
+    let n = c.in_ok-ad.ensures.0 in
+    let a = c.in_ok-text.ensures.0 in
+    let t = c.in_ok-tag.ensures.0 in
+    let g = c.in_ok-end.ensures.0 in
+    bad S 7 (ap not (ne_eqb (length S) (total (lengths S)) (λ e. omega (arith, e, k, n, a, t, g))))
 
 pub returns : goal.returns
 returns c =
     let S : List ℕ = c.args.case.now in
+    let k = c.in_ok-nonce.ensures in
+    let n = c.in_ok-ad.ensures in
+    let a = c.in_ok-text.ensures in
+    let t = c.in_ok-tag.ensures in
+    let g = c.in_ok-end.ensures in
     let f : Formed S = record {
       table = omega arith;
       first = omega arith;
-      key = omega arith;
-      nonce = omega arith;
-      ad = omega arith;
-      text = omega arith;
-      tag = omega arith;
-      size = omega arith;
+      key = omega (arith, k.0, k.1);
+      nonce = omega (arith, n.0, n.1);
+      ad = omega (arith, a.0, a.1);
+      text = omega (arith, t.0, t.1);
+      tag = omega (arith, g.0, g.1);
+      size = omega (arith, k.0, n.0, a.0, t.0, g.0);
     } in
-    placed S c.load_le32-key.ensures.0 c.load_le32-nonce.ensures.0 c.load_le32-ad.ensures.0 c.load_le32-text.ensures.0
-    c.load_le32-tag.ensures.0 ∙ good S f
+    placed S k.0 n.0 a.0 t.0 g.0 ∙ good S f
