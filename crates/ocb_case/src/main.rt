@@ -6,7 +6,8 @@ ghost use Rattle.std.specs.Io.{ReadsAtMost};
 
 use std::io::{Read, Result, Write};
 
-// Reads until buffer is full or the input ends, and gives how many bytes it put at the front.
+// Reads until buffer is full or the input ends, and gives how many bytes it put at the front. Of std's methods `read_exact` does not say how many came, and
+// `read_to_end` needs a heap.
 fn read_full(from: &mut impl Read, buffer: &mut [u8]) -> Result<usize>
     ensures { ReadsAtMost result buffer.new }
 {

@@ -13,7 +13,7 @@ fn filled(from: &mut impl Read, buffer: &mut [u8]) -> Result<bool> {
     }
 }
 
-// Reads left bytes, or those that there are, and drops them, by way of a buffer.
+// Reads left bytes, or those that there are, and drops them, by way of a buffer. The loop counts what is left to read, which is no index.
 fn skip(from: &mut impl Read, left: usize, buffer: &mut [u8]) -> Result<()> {
     let mut left = left;
     while left > 0 {
