@@ -1,13 +1,13 @@
 -- From the table that was found to what answer leaves: bad, no room, or the answer. Assumes nothing.
 use mathlib.Core.Path.{◌≡◌, refl, sym, ap, subst, ◌∙◌}
-use mathlib.Core.Bool.{Bool, true, false, cond, ◌&&◌}
+use mathlib.Core.Bool.{Bool, true, false, cond}
 use mathlib.Core.List.{List}
 use Prim.Native.Nat.{ℕ, ◌+◌, ◌-◌, ◌<◌}
 use native.Mathlib.Nat.{add-sub_cancel_left}
 use native.Mathlib.Omega.{arith}
 use borrow.Author.Tests.{le-leb, lt-leb}
-use lib.Dec.{leb}
 use lib.ListN.{length}
+use Rattle.std.proofs.lemmas.Bool.{and_right}
 use Rattle.ocb.specs.declared.Answer.{Answer}
 use Rattle.cases.specs.Case.{word, Lengths, lengths, bodies, Decoded, bad, good, decode}
 use Rattle.cases.specs.Places.{places, found, case_at, Within, Room}
@@ -36,10 +36,6 @@ within {S} {t} p =
       end_place = omega arith;
       size = omega arith;
     }
-
-and-false : (a : Bool) → a && false ≡ false
-and-false true = refl
-and-false false = refl
 
 -- the bodies by their lengths and by their places
 same_bodies : (S : List ℕ) (l : Lengths) → bodies S l ≡ case_at S (places S l)
@@ -90,7 +86,7 @@ module _ {S : List ℕ} {t : Table} (p : Placed S t) (text tag : List ℕ) where
   no_text_room h = no_room (let e = lt-leb (length (case_at S t).text) (length text) (omega (arith, text_size)) in rw e)
 
   pub no_tag_room : length tag < t.end - t.tag → Left (result_of (decode S) text tag) (Err NoRoom) text tag
-  no_tag_room h = no_room (let e = lt-leb (length (case_at S t).tag) (length tag) (omega (arith, tag_size)) in rw e (and-false (leb (length (case_at S t).text) (length text))))
+  no_tag_room h = no_room (and_right _ _ (lt-leb (length (case_at S t).tag) (length tag) (omega (arith, tag_size))))
 
   pub answered : {r : Answer} {text' tag' : List ℕ} → Room t text tag → Lays (case_at S t) r text tag text' tag'
       → Left (result_of (decode S) text tag) (Ok (record { number = r.number; calls = r.calls; text = t.tag - t.text; tag = t.end - t.tag })) text' tag'

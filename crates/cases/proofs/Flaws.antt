@@ -1,22 +1,16 @@
 -- One flaw makes a case bad; none makes it good, with its bodies at the places that the lengths give. Assumes nothing.
-use mathlib.Core.Path.{◌≡◌, refl, sym, ap}
-use mathlib.Core.Bool.{Bool, true, false, cond, ◌||◌}
+use mathlib.Core.Path.{◌≡◌, sym, ap}
+use mathlib.Core.Bool.{Bool, true, false, cond}
 use mathlib.Core.List.{List, [], ◌∷◌}
 use Prim.Native.Nat.{ℕ, zero, suc, ◌+◌, ◌≤◌}
 use borrow.Author.Tests.{le-ltb, eq-eqb}
 use lib.Dec.{eqb}
 use lib.ListN.{length, get_or}
+use Rattle.std.proofs.lemmas.Bool.{or_left, or_right}
 use Rattle.cases.specs.Case.{word, total, lengths, flaws, any, malformed}
 use Rattle.cases.specs.Places.{places, found}
 use Rattle.cases.specs.declared.table.Table.{Table}
 use Rattle.std.specs.Prelude.{Option, None, Some}
-
-or_left : (a b : Bool) → a ≡ true → a || b ≡ true
-or_left a b e = rw e
-
-or_right : (a b : Bool) → b ≡ true → a || b ≡ true
-or_right true b e = refl
-or_right false b e = e
 
 any_at : (tests : List Bool) (i : ℕ) → get_or tests i false ≡ true → any tests ≡ true
 any_at [] i e = e

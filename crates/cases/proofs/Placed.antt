@@ -1,29 +1,22 @@
 -- What a table that was found says of its case: it is of good form, and its places are in order and within it. Assumes nothing.
 use mathlib.Core.Path.{◌≡◌, refl, sym, ◌∙◌}
-use mathlib.Core.Bool.{Bool, true, false, cond, ◌||◌}
+use mathlib.Core.Bool.{Bool, true, false, cond}
 use mathlib.Core.List.{List, [], ◌∷◌}
 use Prim.Native.Nat.{ℕ, zero, suc}
 use native.Mathlib.Omega.{arith}
 use borrow.Author.Tests.{ltb-false, eqb-true, not-false}
 use lib.ListN.{get_or}
+use Rattle.std.proofs.lemmas.Bool.{or_parts}
 use Rattle.cases.specs.Case.{lengths, flaws, any, malformed}
 use Rattle.cases.specs.Places.{places, found}
 use Rattle.cases.specs.declared.table.Table.{Table}
 use Rattle.std.specs.Prelude.{Option, None, Some}
 use Rattle.cases.proofs.Flaws.{Formed}
 
-or_false_left : (a b : Bool) → a || b ≡ false → a ≡ false
-or_false_left true b e = e
-or_false_left false b e = refl
-
-or_false_right : (a b : Bool) → a || b ≡ false → b ≡ false
-or_false_right true b e = absurd (let z : ◌≡◌ {A = ℕ} 0 1 = cc in omega arith)
-or_false_right false b e = e
-
 none_at : (tests : List Bool) (i : ℕ) → any tests ≡ false → get_or tests i false ≡ false
 none_at [] i e = refl
-none_at (test ∷ tests) zero e = or_false_left test (any tests) e
-none_at (test ∷ tests) (suc i) e = none_at tests i (or_false_right test (any tests) e)
+none_at (test ∷ tests) zero e = (or_parts test (any tests) e).0
+none_at (test ∷ tests) (suc i) e = none_at tests i (or_parts test (any tests) e).1
 
 -- the converse of `good`
 pub formed : (S : List ℕ) → malformed S ≡ false → Formed S
