@@ -1,5 +1,5 @@
 -- The numbers of adding against the tests that the code makes, what is known where there is none, and adding as a whole. Assumes nothing.
-use mathlib.Core.Path.{◌≡◌, refl, sym, ap, subst, ◌∙◌}
+use mathlib.Core.Path.{◌≡◌, refl, sym, ap, ap₂, subst, subst⁻¹, ◌∙◌}
 use mathlib.Core.Bool.{Bool, true, false, cond, ◌||◌}
 use mathlib.Core.List.{List, []}
 use Prim.Native.Nat.{ℕ, zero, suc, ◌<◌, ◌≤◌}
@@ -23,7 +23,11 @@ use Rattle.spill_form.specs.Adding.{Adding, new_length, nonce_in, add_rules, add
 use Rattle.spill_form.specs.declared.Form.{Form}
 use Rattle.spill_form.proofs.FileLaws.{or-false, or_left, or_right, else-first, within}
 use Rattle.spill_lay.specs.Laying.{Laying}
-use Rattle.spill_add.specs.Adds.{Adds}
+use Rattle.std.specs.Prelude.{Result, Err}
+use Rattle.spill_form.specs.Numbers.{number_of}
+use Rattle.spill_form.specs.declared.Refusal.{Refusal}
+use Rattle.spill_form.proofs.Numbers.{numbered_from_1}
+use Rattle.spill_add.specs.Adds.{Adds, refused, addition_of}
 use Rattle.spill_add.specs.declared.Addition.{Addition}
 
 -- ---- the numbers 17, 15 and 16, for a file S in a buffer of `room` bytes and a text of k bytes
@@ -118,13 +122,6 @@ module _ (s : State) (N : List ℕ) (tenant : ℕ) (P : List ℕ) where
       go true p q = eqb-true _ _ p
       go false p q = absurd (omega (arith, (in_range s.values.m s.values.rounds 0 4 (length P) 16 q).1.nonce_size.from))
 
-pub twelve : (m rounds nonce text : ℕ) {x : ℕ} → nonce ≡ 12 → x ≡ refusal m rounds 12 4 text 16 → x ≡ refusal m rounds (cond (eqb nonce 12) 12 0) 4 text 16
-twelve m rounds nonce text h e = e ∙ sym (ap (λ (b : Bool). refusal m rounds (cond b 12 0) 4 text 16) (eq-eqb nonce 12 h))
-
-pub not_twelve : (m rounds nonce text : ℕ) {x : ℕ} → (nonce ≡ 12 → ⊥) → x ≡ refusal m rounds 0 4 text 16
-    → x ≡ refusal m rounds (cond (eqb nonce 12) 12 0) 4 text 16
-not_twelve m rounds nonce text h e = e ∙ sym (ap (λ (b : Bool). refusal m rounds (cond b 12 0) 4 text 16) (ne_eqb nonce 12 h))
-
 -- ---- adding as a whole
 
 pub not_added : (n : ℕ) {x : ℕ} (B : List ℕ) (file : ℕ) (done : Adding) → x ≡ n → (x ≡ 0 → ⊥)
@@ -143,23 +140,30 @@ module _ (f : Form) (s : State) (B : List ℕ) (file : ℕ) (N : List ℕ) (tena
   abbrev number₃ : ℕ
   number₃ = (sealed_for s N tenant P).number
 
-  pub refused_file : {x : ℕ} → x ≡ number₁ → (x ≡ 0 → ⊥) → Adds (adding f s B file N tenant P) (record { number = x; calls = 0; file = file }) B
+  pub refused_file : (e : Refusal) → number_of e ≡ number₁ → Adds (adding f s B file N tenant P) (refused file e) B
   unfolding adding
-  refused_file e h = not_added _ B file _ (e ∙ sym (else-first number₁ _ (λ z. h (e ∙ z)))) h
+  refused_file e by =
+      let h = numbered_from_1 e in
+      not_added _ B file _ (by ∙ sym (else-first number₁ _ (λ z. h (by ∙ z)))) h
+
+  -- the form g and the bytes S are those of the file that is checked
+  pub room_is : {g : Form} {S : List ℕ} {x : ℕ} → (g ≡ f) × (S ≡ take file B) → x ≡ add_number g S N tenant (length P) (length B) → x ≡ number₂
+  room_is same e = e ∙ ap₂ (λ (h : Form) (T : List ℕ). add_number h T N tenant (length P) (length B)) same.0 same.1
 
   module _ (accepted : number₁ ≡ 0) where
-    pub refused_add : {x : ℕ} → x ≡ number₂ → (x ≡ 0 → ⊥) → Adds (adding f s B file N tenant P) (record { number = x; calls = 0; file = file }) B
+    pub refused_add : (e : Refusal) → number_of e ≡ number₂ → Adds (adding f s B file N tenant P) (refused file e) B
     unfolding adding
-    refused_add e h =
-        let z : number₁ or_else number₂ or_else number₃ ≡ number₂ = rw accepted (else-first number₂ number₃ (λ z. h (e ∙ z))) in
-        not_added (number₁ or_else number₂ or_else number₃) B file _ (e ∙ sym z) h
+    refused_add e by =
+        let h = numbered_from_1 e in
+        let z : number₁ or_else number₂ or_else number₃ ≡ number₂ = rw accepted (else-first number₂ number₃ (λ z. h (by ∙ z))) in
+        not_added (number₁ or_else number₂ or_else number₃) B file _ (by ∙ sym z) h
 
     module _ (has_room : number₂ ≡ 0) where
-      pub refused_seal : {x : ℕ} → x ≡ number₃ → (x ≡ 0 → ⊥) → Adds (adding f s B file N tenant P) (record { number = x; calls = 0; file = file }) B
+      pub refused_seal : (e : Refusal) → number_of e ≡ number₃ → Adds (adding f s B file N tenant P) (refused file e) B
       unfolding adding
-      refused_seal e h =
+      refused_seal e by =
           let z : number₁ or_else number₂ or_else number₃ ≡ number₃ = simp (accepted, has_room) in
-          not_added (number₁ or_else number₂ or_else number₃) B file _ (e ∙ sym z) h
+          not_added (number₁ or_else number₂ or_else number₃) B file _ (by ∙ sym z) (numbered_from_1 e)
 
       module _ (seals : number₃ ≡ 0) where
         pub done : {calls size : ℕ} {B' : List ℕ} → size ≡ new_length f (take file B) (length P)
@@ -191,7 +195,6 @@ module _ (f : Form) (s : State) (B : List ℕ) (file : ℕ) (N : List ℕ) (tena
               tenant_size = tenant_size;
             }
 
--- by the form that was given
-pub of_form : {f g : Form} {r : Addition} {B' : List ℕ} (s : State) (B : List ℕ) (file : ℕ) (N : List ℕ) (tenant : ℕ) (P : List ℕ) → f ≡ g
-    → Adds (adding f s B file N tenant P) r B' → Adds (adding g s B file N tenant P) r B'
-of_form {f} {g} {r} {B'} s B file N tenant P e given = subst (λ (x : Form). Adds (adding x s B file N tenant P) r B') e given
+-- the answer of a refusal that was handed on
+pub answered : {x : Adding} {B : List ℕ} {r : Result Addition Refusal} (file : ℕ) (e : Refusal) → r ≡ Err e → Adds x (refused file e) B → Adds x (addition_of file r) B
+answered {x} {B} file e is given = subst⁻¹ (λ (r : Result Addition Refusal). Adds x (addition_of file r) B) is given

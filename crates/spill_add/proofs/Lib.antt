@@ -1,3 +1,2 @@
 pub mod AddLaws
-pub mod SameLaws
 pub mod Additions

@@ -1,9 +1,11 @@
 -- The promise of adding, and the words in which its theorems are said (proofs/Additions.antt).
-use Rattle.std.specs.Prelude.{◌≡◌, List, ℕ, ◌<◌, length, drop}
+use Rattle.std.specs.Prelude.{◌≡◌, Result, Ok, Err, List, ℕ, ◌<◌, length, drop}
 use Rattle.standards.specs.Strings.{Bytes}
 use Rattle.ocb_variables.specs.declared.State.{State}
 use Rattle.ocb.specs.Terms.{HoldsBytes}
 use Rattle.spill_form.specs.Adding.{Adding}
+use Rattle.spill_form.specs.Numbers.{number_of}
+use Rattle.spill_form.specs.declared.Refusal.{Refusal}
 use Rattle.spill_add.specs.declared.Addition.{Addition}
 
 -- THE PROMISE: the answer r, and the buffer that is left, are those of the adding
@@ -12,6 +14,14 @@ pub record Adds (x : Adding) (r : Addition) (B : List ℕ) : Type 0 where
   pub calls : r.calls ≡ x.calls
   pub file : r.file ≡ x.file
   pub buffer_left : B ≡ x.buffer
+
+-- the answer of a refusal, and of an outcome, where the file has so many bytes
+abbrev pub refused : ℕ → Refusal → Addition
+refused file e = record { number = number_of e; calls = 0; file = file }
+
+abbrev pub addition_of : ℕ → Result Addition Refusal → Addition
+addition_of file (Ok r) = r
+addition_of file (Err e) = refused file e
 
 -- what every program has: a state of bytes, a buffer, a nonce and a text of bytes, a tenant's number of four bytes
 pub record Given (s : State) (B N : List ℕ) (tenant : ℕ) (P : List ℕ) : Type 0 where

@@ -1,92 +1,71 @@
 // Adding a row to a spill file, in place. What each number leaves stands in spill_form/specs/Adding.antt, and what follows from it in proofs/Additions.antt.
 #![tactic(auto)]
 
-ghost use Rattle.std.specs.Prelude.{◌≡◌, cond, ◌≤◌, ◌<◌, eqb, length};
-ghost use Rattle.standards.specs.Rfc7253.{same};
+ghost use Rattle.std.specs.Prelude.{◌≡◌, cond, ◌≤◌, eqb, length};
 ghost use Rattle.ocb_numbers.specs.Numbers.{refusal};
-ghost use Rattle.spill_form.specs.File.{most_bytes, tags_in_bodies};
-ghost use Rattle.spill_form.specs.Accepted.{Tabled};
+ghost use Rattle.spill_form.specs.File.{tags_in_bodies};
 ghost use Rattle.spill_form.specs.Adding.{nonce_in, add_number, adding};
-ghost use Rattle.spill_add.specs.Adds.{Adds};
+ghost use Rattle.spill_form.specs.Numbers.{outcome_number};
+ghost use Rattle.spill_add.specs.Adds.{Adds, addition_of};
 
 use ocb_variables::{KeyValues, State};
-use spill_form::{Form, MOST_BYTES, MOST_ROWS};
-
-// Whether two strings are the same.
-fn equal(a: &[u8], b: &[u8]) -> bool
-    ensures { result ≡ same a.now b.now }
-{
-    if a.len() != b.len() {
-        return false;
-    }
-    let mut i = 0;
-    while i < a.len() {
-        if a[i] != b[i] {
-            return false;
-        }
-        i += 1;
-    }
-    true
-}
+use spill_form::{File, Form, MOST_BYTES, MOST_ROWS, Refusal};
 
 // Whether a row of the file s has this nonce.
-fn has_nonce(f: Form, s: &[u8], nonce: &[u8]) -> bool
-    requires { (f.tag_in_row ≤ 16) × Tabled f s.now }
-    ensures { result ≡ nonce_in f s.now nonce.now }
+fn has_nonce(s: File<'_>, nonce: &[u8]) -> bool
+    ensures { result ≡ nonce_in s.entry.form s.entry.bytes.now nonce.now }
 {
-    let mut at = spill_form::row_at(f, 0);
-    let mut left = spill_form::count(s);
-    while 0 < left {
-        let end = at + 12;
-        if equal(&s[at..end], nonce) {
+    for i in 0..s.count() {
+        if s.nonce(i) == nonce {
             return true;
         }
-        at += 24 + f.tag_in_row;
-        left -= 1;
     }
     false
 }
 
-// The number of an addition to an accepted file s in a buffer of `room` bytes, for a text of `text` bytes.
-fn refuse_add(f: Form, s: &[u8], nonce: &[u8], tenant: usize, text: usize, room: usize) -> usize
-    requires { (f.tag_in_row ≤ 16) × (Tabled f s.now) × (length s.now ≤ most_bytes) }
-    ensures { result ≡ add_number f s.now nonce.now tenant text room }
+// Whether a text of `text` bytes is added to the file s, in a buffer of `room` bytes.
+#[tactic(auto, unfolding(spill_form::specs::Adding::add_number))]
+fn refuse_add(
+    s: File<'_>,
+    nonce: &[u8],
+    tenant: usize,
+    text: usize,
+    room: usize,
+) -> Result<(), Refusal>
+    ensures { outcome_number result ≡ add_number s.entry.form s.entry.bytes.now nonce.now tenant text room }
 {
     if tenant == 0 {
-        return 17;
+        return Err(Refusal::NoTenant);
     }
-    if has_nonce(f, s, nonce) {
-        return 15;
+    if has_nonce(s, nonce) {
+        return Err(Refusal::NonceUsed);
     }
-    let n = spill_form::count(s);
-    if n == MOST_ROWS {
-        return 16;
+    if s.count() == MOST_ROWS {
+        return Err(Refusal::Full);
     }
     // tested by itself, so that the sum below does not wrap
     if MOST_BYTES < text {
-        return 16;
+        return Err(Refusal::Full);
     }
-    let size = s.len() + (24 + f.tag_in_row) + (text + (16 - f.tag_in_row));
-    if MOST_BYTES < size {
-        return 16;
+    let in_row = s.form.tag_in_row;
+    let size = s.bytes.len() + (24 + in_row) + (text + (16 - in_row));
+    if MOST_BYTES < size || room < size {
+        return Err(Refusal::Full);
     }
-    if room < size {
-        return 16;
-    }
-    0
+    Ok(())
 }
 
-// Seal's number for a nonce and a text of so many bytes. A nonce that is not of twelve is answered as one of none is.
-fn refuse_seal(v: KeyValues, nonce: usize, text: usize) -> usize
-    ensures { result ≡ refusal v.m v.rounds (cond (eqb nonce 12) 12 0) 4 text 16 }
+// Whether seal takes a nonce and a text of so many bytes. A nonce that is not of twelve is answered as one of none is.
+fn refuse_seal(v: KeyValues, nonce: usize, text: usize) -> Result<(), Refusal>
+    ensures { outcome_number result ≡ refusal v.m v.rounds (cond (eqb nonce 12) 12 0) 4 text 16 }
 {
-    if nonce == 12 {
-        return ocb_numbers::refuse(v.m, v.rounds, 12, 4, text, 16);
-    }
-    ocb_numbers::refuse(v.m, v.rounds, 0, 4, text, 16)
+    let nonce = if nonce == 12 { 12 } else { 0 };
+    ocb_numbers::refuse(v.m, v.rounds, nonce, 4, text, 16)?;
+    Ok(())
 }
 
-// What adding gives: the number, how many blocks went to the cipher, and the file's length afterwards.
+// What adding gives: the number, how many blocks went to the cipher, and the file's length afterwards. A number and not a Result, as C and the theorems of
+// Additions.antt have it.
 #[derive(Clone, Copy)]
 pub struct Addition {
     pub number: usize,
@@ -103,44 +82,21 @@ fn add_form(
     nonce: &[u8],
     tenant: u32,
     text: &[u8],
-) -> Addition
+) -> Result<Addition, Refusal>
     requires { f.tag_in_row ≤ 16 }
-    ensures { Adds (adding f s buffer.old file nonce.now tenant text.now) result buffer.new }
+    ensures { Adds (adding f s buffer.old file nonce.now tenant text.now) (addition_of file result) buffer.new }
 {
-    let refused = spill_form::check(f, buffer, file);
-    if refused != 0 {
-        return Addition {
-            number: refused,
-            calls: 0,
-            file: file,
-        };
-    }
-    let room = buffer.len();
-    let barred = refuse_add(f, &buffer[..file], nonce, tenant as usize, text.len(), room);
-    if barred != 0 {
-        return Addition {
-            number: barred,
-            calls: 0,
-            file: file,
-        };
-    }
-    let number = refuse_seal(s.values, nonce.len(), text.len());
-    if number != 0 {
-        return Addition {
-            number: number,
-            calls: 0,
-            file: file,
-        };
-    }
-    let n = spill_form::count(&buffer[..file]);
-    let in_row = f.tag_in_row;
-    let size = file + (24 + in_row) + (text.len() + (16 - in_row));
+    let held = spill_form::check(f, buffer, file)?;
+    refuse_add(held, nonce, tenant as usize, text.len(), buffer.len())?;
+    refuse_seal(s.values, nonce.len(), text.len())?;
+    let n = held.count();
+    let size = file + (24 + f.tag_in_row) + (text.len() + (16 - f.tag_in_row));
     let calls = spill_lay::lay(f, s, buffer, file, n, nonce, tenant as usize, text);
-    Addition {
+    Ok(Addition {
         number: 0,
-        calls: calls,
+        calls,
         file: size,
-    }
+    })
 }
 
 // Adds a row to the file that is the first `file` bytes of a buffer: a text, sealed for a tenant under a nonce of twelve bytes. A refusal changes nothing.
@@ -154,13 +110,13 @@ pub fn add(
 ) -> Addition
     ensures { Adds (adding tags_in_bodies s buffer.old file nonce.now tenant text.now) result buffer.new }
 {
-    add_form(
-        s,
-        spill_form::tags_in_bodies(),
-        buffer,
-        file,
-        nonce,
-        tenant,
-        text,
-    )
+    let form = spill_form::tags_in_bodies();
+    match add_form(s, form, buffer, file, nonce, tenant, text) {
+        Ok(addition) => addition,
+        Err(refused) => Addition {
+            number: refused.into(),
+            calls: 0,
+            file,
+        },
+    }
 }

@@ -1,5 +1,5 @@
 -- The numbers 10, 11 and 12 against the tests that the code makes, and what a file is known to be where they are 0. Assumes nothing.
-use mathlib.Core.Path.{◌≡◌, refl, sym, ap, ap₂, subst, ◌∙◌}
+use mathlib.Core.Path.{◌≡◌, refl, sym, ap, ap₂, subst₂, ◌∙◌}
 use mathlib.Core.Bool.{Bool, true, false, not, ◌||◌}
 use mathlib.Core.List.{List}
 use Prim.Native.Nat.{ℕ, zero, suc, ◌+◌, ◌<◌, ◌≤◌}
@@ -11,9 +11,8 @@ use lib.Dec.{eqb, ltb, lit<, lit≤}
 use lib.ListN.{length, take}
 use Rattle.ocb_numbers.proofs.RuleLaws.{Numbered, first-at, first-none, none_applies}
 use Rattle.spill_form.specs.File.{most_rows, most_bytes, least_body, count, row_at, tenant_of, place_of, length_of, running, no_table, flawed, any_below, content_rules, content_number, file_rules, file_number, ◌or_else◌}
-use Rattle.spill_form.specs.Accepted.{Tabled, Sound, Accepted, Within, HasRow, Passed}
+use Rattle.spill_form.specs.Accepted.{Tabled, Sound, Accepted, Within, Passed}
 use Rattle.spill_form.specs.declared.Form.{Form}
-use Rattle.spill_form.proofs.PlaceLaws.{row_within}
 
 -- ---- tests
 
@@ -70,39 +69,9 @@ module _ (f : Form) (S : List ℕ) where
   unfolding no_table
   has_table t = simp (le-ltb _ _ t.counted, le-ltb _ _ t.few, le-ltb _ _ t.room)
 
-  pub no_count : length S < 4 → no_table f S ≡ true
-  unfolding no_table
-  no_count h = simp (lt-ltb _ _ h)
-
-  pub too_many : most_rows < count S → no_table f S ≡ true
-  unfolding no_table
-  too_many h = rw (or_right (ltb (length S) 4) (ltb most_rows (count S)) (lt-ltb _ _ h))
-
-  pub no_room : length S < row_at f (count S) → no_table f S ≡ true
-  unfolding no_table
-  no_room h = or_right (ltb (length S) 4 || ltb most_rows (count S)) _ (lt-ltb _ _ h)
-
 -- ---- a row
 
 module _ (f : Form) (S : List ℕ) (i : ℕ) where
-  pub no_tenant : tenant_of f S i ≡ 0 → true ≡ flawed f S i
-  unfolding flawed
-  no_tenant h = sym (simp (eq-eqb _ _ h))
-
-  module _ (t : tenant_of f S i ≡ 0 → ⊥) where
-    pub too_short : length_of f S i < least_body f → true ≡ flawed f S i
-    unfolding flawed
-    too_short h = sym (simp (ne_eqb _ _ t, lt-ltb _ _ h))
-
-    module _ (z : least_body f ≤ length_of f S i) where
-      pub misplaced : (place_of f S i ≡ running f S i → ⊥) → true ≡ flawed f S i
-      unfolding flawed
-      misplaced h = sym (simp (ne_eqb _ _ t, le-ltb _ _ z, ne_eqb _ _ h))
-
-      pub past_end : place_of f S i ≡ running f S i → ltb (length S) (place_of f S i + length_of f S i) ≡ flawed f S i
-      unfolding flawed
-      past_end h = sym (simp (ne_eqb _ _ t, le-ltb _ _ z, eq-eqb _ _ h))
-
   sound : flawed f S i ≡ false → Sound f S i
   unfolding flawed
   sound e =
@@ -117,15 +86,8 @@ module _ (f : Form) (S : List ℕ) (i : ℕ) where
       }
 
   unflawed : Sound f S i → flawed f S i ≡ false
-  unflawed s = sym (past_end s.tenant s.least s.place) ∙ le-ltb _ _ s.end
-
--- every row that is counted is there
-pub has_row : (f : Form) (S : List ℕ) (i : ℕ) → f.tag_in_row ≤ 16 → Tabled f S → i < count S → HasRow f S i
-has_row f S i small t h = record {
-  form = small;
-  few = omega (arith, t.few);
-  inside = omega (arith, row_within f i (count S) h, t.room);
-}
+  unfolding flawed
+  unflawed s = simp (ne_eqb _ _ s.tenant, le-ltb _ _ s.least, eq-eqb _ _ s.place, le-ltb _ _ s.end)
 
 -- ---- the loop over the rows
 
@@ -146,9 +108,6 @@ turn f S i {run} {size} p h es e =
       most = omega (arith, p.run_is, es, s.place, s.end);
     }
 
-pub passed_at : (f : Form) (S : List ℕ) {i j run : ℕ} → Passed f S i run → i ≡ j → Passed f S j run
-passed_at f S {i} {j} {run} p e = subst (λ (k : ℕ). Passed f S k run) e p
-
 -- ---- the numbers as the code gives them
 
 module _ (f : Form) (S : List ℕ) where
@@ -157,9 +116,9 @@ module _ (f : Form) (S : List ℕ) where
   number_10 e = sym (first-at 0 (content_rules f S) tt e)
 
   module _ (t : Tabled f S) where
-    pub number_11 : (i : ℕ) → i < count S → flawed f S i ≡ true → 11 ≡ content_number f S
+    number_11 : any_below (flawed f S) (count S) ≡ true → 11 ≡ content_number f S
     unfolding content_number
-    number_11 i h e = sym (first-at 1 (content_rules f S) (has_table f S t, tt) (any_at (flawed f S) (count S) i h e))
+    number_11 e = sym (first-at 1 (content_rules f S) (has_table f S t, tt) e)
 
     module _ (none : any_below (flawed f S) (count S) ≡ false) where
       pub number_12 : running f S (count S) < length S → 12 ≡ content_number f S
@@ -219,6 +178,29 @@ module _ (f : Form) (B : List ℕ) (file : ℕ) where
 
   pub file_accepted : Within f B file → file_number f B file ≡ 0
   file_accepted w = sym (fits w.lent w.most) ∙ accepts f (take file B) w.content
+
+-- ---- the number of a file as the code gives it, whose table is that of the form f and the bytes S
+
+module _ (f : Form) (B : List ℕ) (file : ℕ) (h : file ≤ length B) (k : file ≤ most_bytes) where
+  pub tableless_file : no_table f (take file B) ≡ true → 10 ≡ file_number f B file
+  tableless_file e = number_10 f (take file B) e ∙ fits f B file h k
+
+  module _ {g : Form} {S : List ℕ} (same : (g ≡ f) × (S ≡ take file B)) (t : Tabled g S) where
+    by : {n : ℕ} → n ≡ content_number g S → n ≡ file_number f B file
+    by e = e ∙ ap₂ content_number same.0 same.1 ∙ fits f B file h k
+
+    pub flawed_file : any_below (flawed g S) (count S) ≡ true → 11 ≡ file_number f B file
+    flawed_file e = by (number_11 g S t e)
+
+    pub longer_file : {run : ℕ} → Passed g S (count S) run → run < length S → 12 ≡ file_number f B file
+    longer_file p l = by (number_12 g S t p.none (omega (arith, p.run_is)))
+
+    pub whole_file : {run : ℕ} → Passed g S (count S) run → length S ≤ run → 0 ≡ file_number f B file
+    whole_file p l = by (number_0 g S t p.none (omega (arith, p.run_is)))
+
+-- a file whose number is 0 is accepted
+pub checked : (f : Form) (B : List ℕ) (file : ℕ) {g : Form} {S : List ℕ} → (g ≡ f) × (S ≡ take file B) → 0 ≡ file_number f B file → Accepted g S
+checked f B file same none = subst₂ Accepted (sym same.0) (sym same.1) (within f B file (sym none)).content
 
 -- ---- one number or the next
 

@@ -1,3 +1,4 @@
+pub mod Numbers
 pub mod PlaceLaws
 pub mod FileLaws
 pub mod BuildLaws

@@ -3,3 +3,4 @@ pub mod Accepted
 pub mod Entries
 pub mod Reading
 pub mod Adding
+pub mod Numbers

@@ -1,15 +1,70 @@
 // A spill file's bytes: its form, where a row stands and what is in it, and whether a file is accepted.
 #![tactic(auto)]
 
-ghost use Rattle.std.specs.Prelude.{◌≡◌, true, ◌+◌, ◌^◌, ◌≤◌, ◌<◌, length};
-ghost use Rattle.spill_form.specs.File.{most_bytes, tags_in_bodies, word_at, count, row_at, running, flawed, content_number, file_number};
-ghost use Rattle.spill_form.specs.Accepted.{Tabled, HasRow, Passed};
+ghost use Rattle.std.specs.Prelude.{◌≡◌, true, ◌+◌, ◌^◌, ◌≤◌, ◌<◌, length, take, IfOk, MatchResult};
+ghost use Rattle.spill_form.specs.File.{most_bytes, tags_in_bodies, word_at, count, row_at, nonce_of, tenant_of, place_of, length_of, running, no_table, flawed, any_below, file_number};
+ghost use Rattle.spill_form.specs.Accepted.{Tabled, Passed};
+ghost use Rattle.spill_form.specs.Numbers.{number_of, outcome_number};
 
 // The most rows that a file may have.
 pub const MOST_ROWS: usize = 256;
 
 // The most bytes.
 pub const MOST_BYTES: usize = 65536;
+
+// Why a file, one of its rows or an addition is refused.
+#[derive(Clone, Copy, Debug, PartialEq, Eq)]
+pub enum Refusal {
+    // The output is shorter than the text.
+    OutputLength,
+    // The bytes do not start with a table, or are too many.
+    Table,
+    // A row has a flaw.
+    Flawed,
+    // Bytes stand behind the last body.
+    Behind,
+    // The row is another tenant's.
+    OtherTenant,
+    // There is no such row.
+    NoRow,
+    // A row has the nonce.
+    NonceUsed,
+    // The file or its buffer has no room for more.
+    Full,
+    // The tenant is 0.
+    NoTenant,
+    // What seal and open refuse.
+    Sizes(ocb_numbers::Refusal),
+}
+
+impl From<Refusal> for usize {
+    ghost from_gives = { λ r n. n ≡ number_of r };
+
+    fn from(r: Refusal) -> usize {
+        match r {
+            Refusal::OutputLength => 9,
+            Refusal::Table => 10,
+            Refusal::Flawed => 11,
+            Refusal::Behind => 12,
+            Refusal::OtherTenant => 13,
+            Refusal::NoRow => 14,
+            Refusal::NonceUsed => 15,
+            Refusal::Full => 16,
+            Refusal::NoTenant => 17,
+            Refusal::Sizes(sizes) => sizes.into(),
+        }
+    }
+}
+
+impl From<ocb_numbers::Refusal> for Refusal {
+    ghost use Rattle.spill_form.specs.declared.Refusal.TheVariants.{Sizes};
+
+    ghost from_gives = { λ sizes r. r ≡ Sizes sizes };
+
+    fn from(sizes: ocb_numbers::Refusal) -> Refusal {
+        Refusal::Sizes(sizes)
+    }
+}
 
 // How many of a tag's sixteen bytes stand in the row. The rest of them stand behind the ciphertext.
 #[derive(Clone, Copy)]
@@ -24,16 +79,6 @@ pub fn tags_in_bodies() -> Form
     Form { tag_in_row: 0 }
 }
 
-// ---- Where things stand
-
-// How many rows the file s says it has.
-pub fn count(s: &[u8]) -> usize
-    requires { 4 ≤ length s.now }
-    ensures { result ≡ count s.now }
-{
-    block::load_le32(s, 0)
-}
-
 // Where row i starts.
 pub fn row_at(f: Form, i: usize) -> usize
     requires { (f.tag_in_row ≤ 16) × (i ≤ most_bytes) }
@@ -42,97 +87,127 @@ pub fn row_at(f: Form, i: usize) -> usize
     4 + (24 + f.tag_in_row) * i
 }
 
-// The number in row i of the file s that starts k bytes behind the row's start: 12 the tenant, 16 the body's place, 20 its length.
-pub fn field(f: Form, s: &[u8], i: usize, k: usize) -> usize
-    requires { (HasRow f s.now i) × (k ≤ 20) }
-    ensures { (result ≡ word_at s.now (row_at f i + k)) × (result < 2 ^ 32) }
-{
-    let at = row_at(f, i);
-    block::load_le32(s, at + k)
-}
-
-// ---- Whether a file is accepted
-
-// Whether row i of the file s, whose body should be at the place run, has a flaw.
-fn flawed(f: Form, s: &[u8], i: usize, run: usize) -> bool
-    requires { (HasRow f s.now i) × (run ≡ running f s.now i) }
-    ensures { result ≡ flawed f s.now i }
-{
-    let tenant = field(f, s, i, 12);
-    if tenant == 0 {
-        return true;
-    }
-    let size = field(f, s, i, 20);
-    if size < 16 - f.tag_in_row {
-        return true;
-    }
-    let place = field(f, s, i, 16);
-    if place != run {
-        return true;
-    }
-    s.len() < place + size
-}
-
-// How many rows are without flaw, from the first on, and the place behind their bodies.
+// Bytes that start with a table, in which every row that is counted has its place.
 #[derive(Clone, Copy)]
-struct Progress {
-    rows: usize,
-    run: usize,
+pub struct File<'a> {
+    pub form: Form,
+    pub bytes: &'a [u8],
+    pub ghost small: { form.tag_in_row ≤ 16 },
+    pub ghost few: { length bytes.now ≤ most_bytes },
+    pub ghost table: { Tabled form bytes.now },
 }
 
-// Looks through the n rows of the file s, whose table ends at `end`, up to the first that has a flaw. One pass.
-fn look_through(f: Form, s: &[u8], n: usize, end: usize) -> Progress
-    requires { (f.tag_in_row ≤ 16) × (Tabled f s.now) × (length s.now ≤ most_bytes) × (n ≡ count s.now) × (end ≡ row_at f (count s.now)) }
-    ensures { (Passed f s.now result.rows result.run) × (result.rows < count s.now → flawed f s.now result.rows ≡ true) }
-{
-    let mut run = end;
-    let mut i = 0;
-    while i < n {
-        if flawed(f, s, i, run) {
-            return Progress { rows: i, run: run };
+impl<'a> File<'a> {
+    // How many rows there are.
+    pub fn count(self) -> usize
+        ensures { result ≡ count self.entry.bytes.now }
+    {
+        block::load_le32(self.bytes, 0)
+    }
+
+    // The number in row i that starts k bytes behind the row's start.
+    fn word(self, i: usize, k: usize) -> usize
+        requires { (i < count self.bytes.now) × (k ≤ 20) }
+        ensures { (result ≡ word_at self.entry.bytes.now (row_at self.entry.form i + k)) × (result < 2 ^ 32) }
+    {
+        block::load_le32(self.bytes, row_at(self.form, i) + k)
+    }
+
+    // The nonce in row i.
+    pub fn nonce(self, i: usize) -> &'a [u8]
+        requires { i < count self.bytes.now }
+        ensures { result.now ≡ nonce_of self.entry.form self.entry.bytes.now i }
+    {
+        let at = row_at(self.form, i);
+        &self.bytes[at..at + 12]
+    }
+
+    // The number of its tenant.
+    pub fn tenant(self, i: usize) -> usize
+        requires { i < count self.bytes.now }
+        ensures { result ≡ tenant_of self.entry.form self.entry.bytes.now i }
+    {
+        self.word(i, 12)
+    }
+
+    // The place of its body.
+    pub fn place(self, i: usize) -> usize
+        requires { i < count self.bytes.now }
+        ensures { (result ≡ place_of self.entry.form self.entry.bytes.now i) × (result < 2 ^ 32) }
+    {
+        self.word(i, 16)
+    }
+
+    // The length of its body.
+    pub fn size(self, i: usize) -> usize
+        requires { i < count self.bytes.now }
+        ensures { (result ≡ length_of self.entry.form self.entry.bytes.now i) × (result < 2 ^ 32) }
+    {
+        self.word(i, 20)
+    }
+
+    // Whether row i, whose body should be at the place run, has a flaw.
+    #[tactic(auto, unfolding(crate::specs::File::flawed))]
+    fn flawed(self, i: usize, run: usize) -> bool
+        requires { (i < count self.bytes.now) × (run ≡ running self.form self.bytes.now i) }
+        ensures { result ≡ flawed self.entry.form self.entry.bytes.now i }
+    {
+        let tenant = self.tenant(i);
+        let place = self.place(i);
+        let size = self.size(i);
+        tenant == 0
+            || size < 16 - self.form.tag_in_row
+            || place != run
+            || self.bytes.len() < place + size
+    }
+
+    // The place behind the bodies, where no row has a flaw. One pass.
+    fn end(self) -> Result<usize, Refusal>
+        ensures { MatchResult result
+            (Passed self.entry.form self.entry.bytes.now (count self.entry.bytes.now))
+            (λ e. (e ≡ Refusal.Flawed) × (any_below (flawed self.entry.form self.entry.bytes.now) (count self.entry.bytes.now) ≡ true)) }
+    {
+        let mut run = row_at(self.form, self.count());
+        for i in 0..self.count() {
+            if self.flawed(i, run) {
+                return Err(Refusal::Flawed);
+            }
+            run += self.size(i);
         }
-        run += field(f, s, i, 20);
-        i += 1;
+        Ok(run)
     }
-    Progress { rows: n, run: run }
 }
 
-// The number of a file's bytes: 0, 10, 11 or 12.
-fn check_content(f: Form, s: &[u8]) -> usize
-    requires { (f.tag_in_row ≤ 16) × (length s.now ≤ most_bytes) }
-    ensures { result ≡ content_number f s.now }
+// The file of the bytes s, where they start with a table.
+#[tactic(auto, unfolding(crate::specs::File::no_table))]
+fn tabled<'a>(form: Form, bytes: &'a [u8]) -> Result<File<'a>, Refusal>
+    requires { (form.tag_in_row ≤ 16) × (length bytes.now ≤ most_bytes) }
+    ensures { MatchResult result
+        (λ s. (s.form ≡ form) × (s.bytes.now ≡ bytes.now))
+        (λ e. (e ≡ Refusal.Table) × (no_table form bytes.now ≡ true)) }
 {
-    if s.len() < 4 {
-        return 10;
+    if bytes.len() < 4 {
+        return Err(Refusal::Table);
     }
-    let n = count(s);
-    if MOST_ROWS < n {
-        return 10;
+    let n = block::load_le32(bytes, 0);
+    if MOST_ROWS < n || bytes.len() < row_at(form, n) {
+        return Err(Refusal::Table);
     }
-    let end = row_at(f, n);
-    if s.len() < end {
-        return 10;
-    }
-    let passed = look_through(f, s, n, end);
-    if passed.rows < n {
-        return 11;
-    }
-    if passed.run < s.len() {
-        return 12;
-    }
-    0
+    Ok(File { form, bytes })
 }
 
-// The number of the file that is the first bytes of a buffer.
-pub fn check(f: Form, buffer: &[u8], file: usize) -> usize
-    requires { f.tag_in_row ≤ 16 }
-    ensures { result ≡ file_number f buffer.now file }
+// The file that the first `file` bytes of a buffer are, where it is accepted.
+pub fn check<'a>(form: Form, buffer: &'a [u8], file: usize) -> Result<File<'a>, Refusal>
+    requires { form.tag_in_row ≤ 16 }
+    ensures number { outcome_number result ≡ file_number form buffer.now file }
+    ensures accepted { IfOk result (λ s. (s.form ≡ form) × (s.bytes.now ≡ take file buffer.now)) }
 {
-    if buffer.len() < file {
-        return 10;
+    if buffer.len() < file || MOST_BYTES < file {
+        return Err(Refusal::Table);
     }
-    if MOST_BYTES < file {
-        return 10;
+    let file = tabled(form, &buffer[..file])?;
+    if file.end()? < file.bytes.len() {
+        return Err(Refusal::Behind);
     }
-    check_content(f, &buffer[..file])
+    Ok(file)
 }

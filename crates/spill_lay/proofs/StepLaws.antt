@@ -1,20 +1,20 @@
 -- Laws of writing over a buffer. Assumes nothing.
 use mathlib.Core.Path.{◌≡◌, refl, sym, ap, ap₂, ◌∙◌}
 use mathlib.Core.Bool.{Bool, cond}
-use mathlib.Core.List.{List, [], ◌∷◌, ◌++◌, append_assoc, append-nil}
-use Prim.Native.Nat.{ℕ, suc, ◌+◌, ◌-◌, ◌<◌, ◌≤◌}
-use native.Mathlib.Nat.{add-zero}
+use mathlib.Core.List.{List, [], ◌++◌, append_assoc, append-nil}
+use Prim.Native.Nat.{ℕ, suc, ◌+◌, ◌-◌, ◌≤◌}
 use native.Mathlib.Numerals.{add-one}
 use native.Mathlib.Omega.{arith}
 use borrow.Author.Tests.{eq-eqb}
-use lib.ListN.{length, get_or, take, drop, set, take-append-drop, length-append, length-take, length-drop, get_or-append}
-use lib.Seq.{take_at, drop_at, take-suc, set_at, get_or-take, length-take-le, drop-cons, drop-append-add, drop-drop}
+use lib.ListN.{length, take, drop, length-append, length-take, length-drop}
+use lib.Seq.{take_at, drop_at, length-take-le, drop-append-add, drop-drop}
 use borrow.Rule.Slice.PartMut.{put_mid, Post-is}
+use Rattle.std.specs.List.{copy_within}
 use Rattle.block.specs.Words.{le_bytes}
 use Rattle.block.proofs.WordLaws.{le_bytes_length}
 use Rattle.spill_form.specs.File.{bytes_at, word_at, row_at}
 use Rattle.spill_form.specs.declared.Form.{Form}
-use Rattle.spill_form.proofs.PlaceLaws.{bytes_at_whole}
+use Rattle.spill_form.proofs.PlaceLaws.{bytes_at_length, bytes_at_whole}
 use Rattle.standards.specs.Strings.{zeros}
 use Rattle.ocb_variables.specs.declared.State.{State}
 use Rattle.ocb.specs.Answers.{Outcome, sealed, Leaves}
@@ -33,37 +33,6 @@ over_mid A M Z N at e l =
     ap₂ (λ (x y : List ℕ). x ++ (N ++ y)) (take_at A (M ++ Z) at (sym e))
     (ap₂ (λ (i j : ℕ). drop (i + j) (A ++ (M ++ Z))) e l ∙ drop-append-add A (M ++ Z) (length M) ∙ drop_at M Z (length M) refl)
 
--- ---- moving up, from the last byte on
-
-pub moved_none : (B : List ℕ) (to by : ℕ) → B ≡ moved B to to by
-unfolding moved over
-moved_none B to by =
-    let z : to - to ≡ 0 = omega arith in
-    sym (ap (λ (n : ℕ). take (to + by) B ++ (take n (drop to B) ++ drop (to + by + length (take n (drop to B))) B)) z
-    ∙ ap (λ (k : ℕ). take (to + by) B ++ drop k B) (add-zero (to + by))
-    ∙ take-append-drop (to + by) B)
-
-pub moved_more : (B : List ℕ) (j to by : ℕ) → j < to → to + by ≤ length B
-    → set (moved B (suc j) to by) (j + by) (get_or (moved B (suc j) to by) j 0) ≡ moved B j to by
-unfolding moved over
-moved_more B j to by h k =
-    let X : List ℕ = bytes_at B (suc j) (to - suc j) in
-    let Z : List ℕ = X ++ drop (suc j + by + length X) B in
-    let e : suc j + by ≡ suc (j + by) = omega arith in
-    let front : take (suc j + by) B ≡ take (j + by) B ++ (get_or B (j + by) 0 ∷ []) = ap (λ (i : ℕ). take i B) e ∙ take-suc B (j + by) 0 (omega arith) in
-    let long : length (take (j + by) B) ≡ j + by = length-take-le (j + by) B (omega arith) in
-    let all : take (suc j + by) B ++ Z ≡ take (j + by) B ++ (get_or B (j + by) 0 ∷ Z) =
-    ap (λ (l : List ℕ). l ++ Z) front ∙ append_assoc (take (j + by) B) (get_or B (j + by) 0 ∷ []) Z in
-    let byte : get_or (take (suc j + by) B ++ Z) j 0 ≡ get_or B j 0 =
-    get_or-append (take (suc j + by) B) Z 0 j (omega (arith, length-take-le (suc j + by) B (omega arith))) ∙ get_or-take (suc j + by) B j 0 (omega arith) in
-    let n : to - j ≡ suc (to - suc j) = omega arith in
-    let part_is : bytes_at B j (to - j) ≡ get_or B j 0 ∷ X = ap (bytes_at B j) n ∙ ap (take (suc (to - suc j))) (drop-cons B j 0 (omega arith)) in
-    let place : j + by + suc (length X) ≡ suc j + by + length X = omega arith in
-    ap₂ (λ (l : List ℕ) (v : ℕ). set l (j + by) v) all byte
-    ∙ set_at (take (j + by) B) (get_or B (j + by) 0) Z (get_or B j 0) (j + by) long
-    ∙ ap (λ (i : ℕ). take (j + by) B ++ (get_or B j 0 ∷ (X ++ drop i B))) (sym place)
-    ∙ sym (ap (λ (l : List ℕ). take (j + by) B ++ (l ++ drop (j + by + length l) B)) part_is)
-
 -- ---- writing, as block's functions promise it
 
 pub copied : (B : List ℕ) (at : ℕ) (M : List ℕ) {x : List ℕ} → x ≡ take at B ++ (M ++ drop (at + length M) B) → x ≡ over B at M
@@ -73,6 +42,14 @@ copied B at M e = e
 pub stored : (B : List ℕ) (at n : ℕ) {x : List ℕ} → x ≡ take at B ++ (le_bytes 4 n ++ drop (at + 4) B) → x ≡ over B at (le_bytes 4 n)
 unfolding over
 stored B at n e = e ∙ ap (λ (k : ℕ). take at B ++ (le_bytes 4 n ++ drop (at + k) B)) (sym (le_bytes_length 4 n))
+
+-- and as copy_within does
+pub moved_up : (B : List ℕ) (from to by : ℕ) → from ≤ to → to + by ≤ length B → copy_within B from to (from + by) ≡ moved B from to by
+unfolding moved over
+moved_up B from to by k h =
+    let long : length (bytes_at B from (to - from)) ≡ to - from = bytes_at_length B from (to - from) (omega arith) in
+    append_assoc (take (from + by) B) (bytes_at B from (to - from)) (drop (from + by + (to - from)) B)
+    ∙ ap (λ (n : ℕ). take (from + by) B ++ (bytes_at B from (to - from) ++ drop (from + by + n) B)) (sym long)
 
 -- ---- raising the places
 

@@ -6,36 +6,22 @@ ghost use Rattle.std.specs.Prelude.{◌≡◌, ◌++◌, ◌+◌, ◌≤◌, len
 ghost use Rattle.block.specs.Words.{le_bytes};
 ghost use Rattle.spill_form.specs.File.{most_rows, row_at};
 ghost use Rattle.spill_form.specs.Adding.{added};
-ghost use Rattle.spill_lay.specs.Steps.{over, moved, raised, SealedAt};
+ghost use Rattle.spill_lay.specs.Steps.{over, raised, SealedAt};
 ghost use Rattle.spill_lay.specs.Laying.{Laying};
 
 use ocb_variables::State;
 use sizes::Block;
 use spill_form::Form;
 
-// Copies the bytes from..to of a buffer to where they stand `by` places on, the last first.
-fn move_up(buffer: &mut [u8], from: usize, to: usize, by: usize)
-    requires { (from ≤ to) × (to + by ≤ length buffer.old) }
-    ensures { buffer.new ≡ moved buffer.old from to by }
-{
-    let mut i = to;
-    while from < i {
-        i -= 1;
-        buffer[i + by] = buffer[i];
-    }
-}
-
 // Raises the places in the first n rows.
 fn raise(f: Form, buffer: &mut [u8], n: usize, by: usize)
     requires { (f.tag_in_row ≤ 16) × (n ≤ most_rows) × (by ≤ 40) × (row_at f n ≤ length buffer.old) }
     ensures { buffer.new ≡ raised f by n buffer.old }
 {
-    let mut i = 0;
-    while i < n {
+    for i in 0..n {
         let at = spill_form::row_at(f, i) + 16;
         let place = block::load_le32(buffer, at);
         block::store_le32(buffer, at, place + by);
-        i += 1;
     }
 }
 
@@ -109,7 +95,7 @@ pub fn lay(
     let in_row = f.tag_in_row;
     let end = spill_form::row_at(f, n);
     let by = 24 + in_row;
-    move_up(buffer, end, file, by);
+    buffer.copy_within(end..file, end + by);
     let at = file + by;
     let sealed = seal_text(s, buffer, at, nonce, tenant, text);
     let tag = sealed.tag;

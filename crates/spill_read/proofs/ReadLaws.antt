@@ -1,18 +1,18 @@
 -- The numbers of reading against the tests that the code makes, and what the steps of reading leave. Assumes nothing.
-use mathlib.Core.Path.{◌≡◌, refl, sym, ap, ap₂, subst, ◌∙◌}
+use mathlib.Core.Path.{◌≡◌, refl, sym, ap, ap₂, subst, subst⁻¹, subst₂, ◌∙◌}
 use mathlib.Core.Bool.{Bool, cond, not, ◌||◌}
 use mathlib.Core.List.{List, [], ◌++◌, append-nil}
 use Prim.Native.Nat.{ℕ, zero, suc, ◌+◌, ◌-◌, ◌<◌, ◌≤◌}
 use native.Mathlib.Nat.{zero-add}
 use native.Mathlib.Omega.{arith}
-use borrow.Author.Tests.{leb-false, ltb-false, eqb-true, not-false, lt-ltb, le-ltb, le-leb, lt-leb, eq-eqb, ne_eqb}
+use borrow.Author.Tests.{leb-false, ltb-false, eqb-true, not-false, le-ltb, lt-leb, eq-eqb, ne_eqb}
 use lib.Dec.{lit<, lit≤}
 use lib.ListN.{length, take, drop, drop_of_length-le}
 use lib.Seq.{take_at, drop_at}
 use Rattle.standards.specs.Strings.{zeros}
 use Rattle.standards.specs.Rfc7253.{Plaintext, VALID, INVALID, OCB-DECRYPT}
 use Rattle.ocb_numbers.specs.Numbers.{refusal}
-use Rattle.ocb_numbers.proofs.RuleLaws.{first-at, first-none, none_applies}
+use Rattle.ocb_numbers.proofs.RuleLaws.{first-none, none_applies}
 use Rattle.ocb_numbers.proofs.Refusals.{refusal_most}
 use Rattle.ocb_variables.specs.declared.State.{State}
 use Rattle.ocb_variables.specs.Held.{held}
@@ -28,29 +28,19 @@ use Rattle.spill_form.proofs.PlaceLaws.{row_within, bytes_at_length}
 use Rattle.spill_form.proofs.FileLaws.{else-first}
 use Rattle.spill_form.proofs.BuildLaws.{Proper}
 use Rattle.spill_form.proofs.BuiltLaws.{entry_proper, entry_text_size}
-use Rattle.spill_read.specs.Reads.{Reads}
+use Rattle.std.specs.Prelude.{Result, Err}
+use Rattle.spill_form.specs.Numbers.{number_of}
+use Rattle.spill_form.specs.declared.Refusal.{Refusal}
+use Rattle.spill_form.proofs.Numbers.{numbered_from_1}
+use Rattle.spill_read.specs.Reads.{Reads, refused, reply_of}
 use Rattle.spill_read.specs.declared.Reply.{Reply}
 
 -- ---- the numbers of a row
 
 module _ (f : Form) (S : List ℕ) (i asking room : ℕ) where
-  pub number_14 : count S ≤ i → 14 ≡ row_number f S i asking room
+  pub number_0 : i < count S → tenant_of f S i ≡ asking → text_length f S i ≤ room → 0 ≡ row_number f S i asking room
   unfolding row_number
-  number_14 h = sym (first-at 0 (row_rules f S i asking room) tt (le-leb _ _ h))
-
-  module _ (below : i < count S) where
-    pub number_13 : (tenant_of f S i ≡ asking → ⊥) → 13 ≡ row_number f S i asking room
-    unfolding row_number
-    number_13 h = sym (first-at 1 (row_rules f S i asking room) (lt-leb _ _ below, tt) (ap not (ne_eqb _ _ h)))
-
-    module _ (own : tenant_of f S i ≡ asking) where
-      pub number_9 : room < text_length f S i → 9 ≡ row_number f S i asking room
-      unfolding row_number
-      number_9 h = sym (first-at 2 (row_rules f S i asking room) (lt-leb _ _ below, (ap not (eq-eqb _ _ own), tt)) (lt-ltb _ _ h))
-
-      pub number_0 : text_length f S i ≤ room → 0 ≡ row_number f S i asking room
-      unfolding row_number
-      number_0 h = sym (first-none (row_rules f S i asking room) (lt-leb _ _ below, (ap not (eq-eqb _ _ own), (le-ltb _ _ h, tt))))
+  number_0 below own h = sym (first-none (row_rules f S i asking room) (lt-leb _ _ below, (ap not (eq-eqb _ _ own), (le-ltb _ _ h, tt))))
 
   pub record Readable : Type 0 where
     pub below : i < count S
@@ -202,25 +192,30 @@ not_read zero out done e h = absurd (h e)
 not_read (suc n) out done e h = record { number = e; calls = refl; written = refl; out_left = refl }
 
 module _ (f : Form) (s : State) (B : List ℕ) (file i asking : ℕ) (out : List ℕ) where
-  pub refused_file : {x : ℕ} → x ≡ file_number f B file → (x ≡ 0 → ⊥) → Reads (reading f s B file i asking out) (record { number = x; calls = 0; written = 0 }) out
+  pub refused_file : (e : Refusal) → number_of e ≡ file_number f B file → Reads (reading f s B file i asking out) (refused e) out
   unfolding reading
-  refused_file e h = not_read _ out _ (e ∙ sym (else-first (file_number f B file) _ (λ z. h (e ∙ z)))) h
+  refused_file e by =
+      let h = numbered_from_1 e in
+      not_read _ out _ (by ∙ sym (else-first (file_number f B file) _ (λ z. h (by ∙ z)))) h
 
-  module _ (accepted : file_number f B file ≡ 0) where
-    numbers : file_number f B file or_else row_number f (take file B) i asking (length out) ≡ row_number f (take file B) i asking (length out)
-    numbers = rw accepted
+  -- the form g and the bytes S are those of the file that is checked
+  module _ {g : Form} {S : List ℕ} (same : (g ≡ f) × (S ≡ take file B)) (accepted : 0 ≡ file_number f B file) where
+    numbers : file_number f B file or_else row_number f (take file B) i asking (length out) ≡ row_number g S i asking (length out)
+    numbers =
+        let z : file_number f B file ≡ 0 = sym accepted in
+        rw z (ap₂ (λ (h : Form) (T : List ℕ). row_number h T i asking (length out)) (sym same.0) (sym same.1))
 
-    pub refused_row : {x : ℕ} → x ≡ row_number f (take file B) i asking (length out) → (x ≡ 0 → ⊥)
-        → Reads (reading f s B file i asking out) (record { number = x; calls = 0; written = 0 }) out
+    pub refused_row : (e : Refusal) → number_of e ≡ row_number g S i asking (length out) → Reads (reading f s B file i asking out) (refused e) out
     unfolding reading
-    refused_row e h = not_read _ out _ (e ∙ sym numbers) h
+    refused_row e by = not_read _ out _ (by ∙ sym numbers) (numbered_from_1 e)
 
-    pub read_row : {r : Reply} {out' : List ℕ} → row_number f (take file B) i asking (length out) ≡ 0 → Reads (opened_row f s (take file B) i out) r out'
+    pub read_row : {r : Reply} {out' : List ℕ} → 0 ≡ row_number g S i asking (length out) → Reads (opened_row g s S i out) r out'
         → Reads (reading f s B file i asking out) r out'
     unfolding reading
-    read_row e given = rw (numbers ∙ e) given
+    read_row {r} {out'} none given =
+        let z : file_number f B file or_else row_number f (take file B) i asking (length out) ≡ 0 = numbers ∙ sym none in
+        rw z (subst₂ (λ (h : Form) (T : List ℕ). Reads (opened_row h s T i out) r out') same.0 same.1 given)
 
--- by the form that was given
-pub of_form : {f g : Form} {r : Reply} {out' : List ℕ} (s : State) (B : List ℕ) (file i asking : ℕ) (out : List ℕ) → f ≡ g
-    → Reads (reading f s B file i asking out) r out' → Reads (reading g s B file i asking out) r out'
-of_form {f} {g} {r} {out'} s B file i asking out e given = subst (λ (x : Form). Reads (reading x s B file i asking out) r out') e given
+-- the reply of a refusal that was handed on
+pub replied : {x : Reading} {out : List ℕ} {r : Result Reply Refusal} (e : Refusal) → r ≡ Err e → Reads x (refused e) out → Reads x (reply_of r) out
+replied {x} {out} e is given = subst⁻¹ (λ (r : Result Reply Refusal). Reads x (reply_of r) out) is given

@@ -1,8 +1,10 @@
 -- The promise of reading, and the words in which its theorems are said (proofs/Isolation.antt).
-use Rattle.std.specs.Prelude.{◌≡◌, List, ℕ, ◌+◌, ◌≤◌, length, take, drop}
+use Rattle.std.specs.Prelude.{◌≡◌, Result, Ok, Err, List, ℕ, ◌+◌, ◌≤◌, length, take, drop}
 use Rattle.standards.specs.Strings.{zeros}
 use Rattle.spill_form.specs.File.{bytes_at, row_at, nonce_of, ad_of, place_of, length_of}
+use Rattle.spill_form.specs.Numbers.{number_of}
 use Rattle.spill_form.specs.Reading.{Reading}
+use Rattle.spill_form.specs.declared.Refusal.{Refusal}
 use Rattle.spill_form.specs.declared.Form.{Form}
 use Rattle.spill_read.specs.declared.Reply.{Reply}
 
@@ -12,6 +14,14 @@ pub record Reads (x : Reading) (r : Reply) (out : List ℕ) : Type 0 where
   pub calls : r.calls ≡ x.calls
   pub written : r.written ≡ x.written
   pub out_left : out ≡ x.out
+
+-- the reply of a refusal, and of an outcome
+abbrev pub refused : Refusal → Reply
+refused e = record { number = number_of e; calls = 0; written = 0 }
+
+abbrev pub reply_of : Result Reply Refusal → Reply
+reply_of (Ok r) = r
+reply_of (Err e) = refused e
 
 -- row i of the two files S and S' has the same nonce, tenant, length and body bytes, and the same bytes of the tag where the row has any
 pub record SameRow (f : Form) (S S' : List ℕ) (i : ℕ) : Type 0 where

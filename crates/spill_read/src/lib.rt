@@ -3,17 +3,19 @@
 
 ghost use Rattle.std.specs.Prelude.{◌≡◌, ◌++◌, ◌+◌, ◌≤◌, ◌<◌, length};
 ghost use Rattle.ocb.specs.Answers.{opened};
-ghost use Rattle.spill_form.specs.File.{most_bytes, bytes_at, tags_in_bodies, row_size, least_body, count};
+ghost use Rattle.spill_form.specs.File.{bytes_at, tags_in_bodies, row_size, least_body, count};
 ghost use Rattle.spill_form.specs.Accepted.{Accepted};
 ghost use Rattle.spill_form.specs.Entries.{text_length};
+ghost use Rattle.spill_form.specs.Numbers.{outcome_number};
 ghost use Rattle.spill_form.specs.Reading.{row_number, at_front, opened_row, reading};
-ghost use Rattle.spill_read.specs.Reads.{Reads};
+ghost use Rattle.spill_read.specs.Reads.{Reads, refused, reply_of};
 
 use ocb_variables::State;
 use sizes::Block;
-use spill_form::Form;
+use spill_form::{File, Form, Refusal};
 
-// What reading gives: the number, how many blocks went to the cipher, and how many bytes of the output were written.
+// What reading gives: the number, how many blocks went to the cipher, and how many bytes of the output were written. A number and not a Result, as C and
+// the theorems of Isolation.antt have it.
 #[derive(Clone, Copy)]
 pub struct Reply {
     pub number: usize,
@@ -21,38 +23,49 @@ pub struct Reply {
     pub written: usize,
 }
 
-// The number of a row of an accepted file, for the tenant who asks and an output of `room` bytes.
-fn refuse_row(f: Form, s: &[u8], row: usize, asking: usize, room: usize) -> usize
-    requires { (f.tag_in_row ≤ 16) × Accepted f s.now }
-    ensures { result ≡ row_number f s.now row asking room }
+// What a refusal gives: nothing went to the cipher, and nothing was written.
+impl From<Refusal> for Reply {
+    ghost from_gives = { λ e r. r ≡ refused e };
+
+    fn from(e: Refusal) -> Reply {
+        Reply {
+            number: e.into(),
+            calls: 0,
+            written: 0,
+        }
+    }
+}
+
+// Whether a row of an accepted file is read for the tenant who asks, into an output of `room` bytes.
+#[tactic(auto, unfolding(spill_form::specs::Reading::row_number))]
+fn refuse_row(s: File<'_>, row: usize, asking: usize, room: usize) -> Result<(), Refusal>
+    requires { Accepted s.form s.bytes.now }
+    ensures { outcome_number result ≡ row_number s.entry.form s.entry.bytes.now row asking room }
 {
-    let n = spill_form::count(s);
-    if n <= row {
-        return 14;
+    if s.count() <= row {
+        return Err(Refusal::NoRow);
     }
-    let tenant = spill_form::field(f, s, row, 12);
-    if tenant != asking {
-        return 13;
+    if s.tenant(row) != asking {
+        return Err(Refusal::OtherTenant);
     }
-    let size = spill_form::field(f, s, row, 20);
-    if room < size - (16 - f.tag_in_row) {
-        return 9;
+    if room < s.size(row) - (16 - s.form.tag_in_row) {
+        return Err(Refusal::OutputLength);
     }
-    0
+    Ok(())
 }
 
 // The tag of a row that starts at `at`, whose ciphertext ends at `end`: its bytes in the row, then those behind the ciphertext.
-fn tag_of(f: Form, s: &[u8], at: usize, end: usize) -> Block
-    requires { (f.tag_in_row ≤ 16) × (at + row_size f ≤ length s.now) × (end + least_body f ≤ length s.now) }
-    ensures { result ≡ bytes_at s.now (at + 24) f.tag_in_row ++ bytes_at s.now end (least_body f) }
+fn tag_of(s: File<'_>, at: usize, end: usize) -> Block
+    requires { (at + row_size s.form ≤ length s.bytes.now) × (end + least_body s.form ≤ length s.bytes.now) }
+    ensures { result ≡ bytes_at s.entry.bytes.now (at + 24) s.entry.form.tag_in_row ++ bytes_at s.entry.bytes.now end (least_body s.entry.form) }
 {
-    let in_row = f.tag_in_row;
+    let in_row = s.form.tag_in_row;
     let start = at + 24;
     let row_end = start + in_row;
     let body_end = end + (16 - in_row);
     let mut tag = [0u8; 16];
-    block::copy_at(&mut tag, 0, &s[start..row_end]);
-    block::copy_at(&mut tag, in_row, &s[end..body_end]);
+    block::copy_at(&mut tag, 0, &s.bytes[start..row_end]);
+    block::copy_at(&mut tag, in_row, &s.bytes[end..body_end]);
     tag
 }
 
@@ -84,26 +97,17 @@ fn open_at(
 }
 
 // Opens a row of an accepted file at the front of the output, which has room. Open's refusals are tested first: the ciphertext stays out of the output.
-fn open_row(state: State, f: Form, s: &[u8], row: usize, out: &mut [u8]) -> Reply
-    requires { (f.tag_in_row ≤ 16) × (Accepted f s.now) × (length s.now ≤ most_bytes) × (row < count s.now)
-        × (text_length f s.now row ≤ length out.old) }
-    ensures { Reads (opened_row f state s.now row out.old) result out.new }
+fn open_row(state: State, s: File<'_>, row: usize, out: &mut [u8]) -> Result<Reply, Refusal>
+    requires { (Accepted s.form s.bytes.now) × (row < count s.bytes.now) × (text_length s.form s.bytes.now row ≤ length out.old) }
+    ensures { Reads (opened_row s.entry.form state s.entry.bytes.now row out.old) (reply_of result) out.new }
 {
-    let at = spill_form::row_at(f, row);
-    let place = spill_form::field(f, s, row, 16);
-    let size = spill_form::field(f, s, row, 20);
-    let n = size - (16 - f.tag_in_row);
+    let at = spill_form::row_at(s.form, row);
+    let place = s.place(row);
+    let n = s.size(row) - (16 - s.form.tag_in_row);
     let v = state.values;
-    let number = ocb_numbers::refuse(v.m, v.rounds, 12, 4, n, 16);
-    if number != 0 {
-        return Reply {
-            number: number,
-            calls: 0,
-            written: 0,
-        };
-    }
-    let tag = tag_of(f, s, at, place + n);
-    open_at(state, s, at, place, n, tag, out)
+    ocb_numbers::refuse(v.m, v.rounds, 12, 4, n, 16)?;
+    let tag = tag_of(s, at, place + n);
+    Ok(open_at(state, s.bytes, at, place, n, tag, out))
 }
 
 // The same as `read`, of a file of the form f.
@@ -115,27 +119,13 @@ fn read_form(
     row: usize,
     asking: usize,
     out: &mut [u8],
-) -> Reply
+) -> Result<Reply, Refusal>
     requires { f.tag_in_row ≤ 16 }
-    ensures { Reads (reading f state buffer.now file row asking out.old) result out.new }
+    ensures { Reads (reading f state buffer.now file row asking out.old) (reply_of result) out.new }
 {
-    let refused = spill_form::check(f, buffer, file);
-    if refused != 0 {
-        return Reply {
-            number: refused,
-            calls: 0,
-            written: 0,
-        };
-    }
-    let number = refuse_row(f, &buffer[..file], row, asking, out.len());
-    if number != 0 {
-        return Reply {
-            number: number,
-            calls: 0,
-            written: 0,
-        };
-    }
-    open_row(state, f, &buffer[..file], row, out)
+    let s = spill_form::check(f, buffer, file)?;
+    refuse_row(s, row, asking, out.len())?;
+    open_row(state, s, row, out)
 }
 
 // Reads a row of the file that is the first `file` bytes of a buffer, for the tenant who asks, into the front of the output.
@@ -149,13 +139,6 @@ pub fn read(
 ) -> Reply
     ensures { Reads (reading tags_in_bodies state buffer.now file row asking out.old) result out.new }
 {
-    read_form(
-        state,
-        spill_form::tags_in_bodies(),
-        buffer,
-        file,
-        row,
-        asking as usize,
-        out,
-    )
+    let form = spill_form::tags_in_bodies();
+    read_form(state, form, buffer, file, row, asking as usize, out).unwrap_or_else(Reply::from)
 }

@@ -1,38 +1,38 @@
--- `spill_add::has_nonce` meets its contract. The loop's invariant: no row before those that are left has the nonce. Assumes nothing.
+-- `has_nonce` meets its contract. The loop's invariant: no row passed has the nonce. Assumes nothing.
+use mathlib.Core.Path.{◌≡◌, refl, sym, ap, ◌∙◌}
+use mathlib.Core.Bool.{◌&&◌}
+use mathlib.Core.List.{List, [], ◌∷◌}
+use Prim.Native.Nat.{ℕ}
 use native.Mathlib.Omega.{arith}
-use Rattle.spill_add.proofs.SameLaws.{search_starts, search_row, search_found, search_on, search_ended}
+use lib.Dec.{eqb}
+use lib.Pointwise.{pointwise}
+use Rattle.standards.specs.Rfc7253.{same}
+use Rattle.spill_form.specs.File.{count, nonce_of, any_below}
+use Rattle.spill_form.proofs.FileLaws.{any_at, none_more}
 use Rattle.spill_add.proofs.has_nonce.Goals as goal
 
-pub loop-left-init : goal.loop-left-init
-loop-left-init c =
-    let a = c.args in
-    search_starts a.f a.s.now a.nonce.now c.row_at-at.ensures c.count-left.ensures
+-- `==` says whether two strings are the same
+same_is : (a b : List ℕ) → same a b ≡ pointwise eqb a b
+unfolding same
+same_is [] [] = refl
+same_is [] (y ∷ b) = refl
+same_is (x ∷ a) [] = refl
+same_is (x ∷ a) (y ∷ b) = ap (λ t. eqb x y && t) (same_is a b)
 
-pub overflow_add-end : goal.overflow_add-end
-overflow_add-end c =
-    let l = c.loop-left in
-    let w = search_row c.args.f c.args.s.now c.args.nonce.now l.invariant (omega arith) c.requires.0 c.requires.1 in
-    omega (arith, w.inside, l.invariant.at-is)
+pub loop-i-init : goal.loop-i-init
+unfolding any_below
+loop-i-init c = refl
 
-pub slice_bounds-equal-end : goal.slice_bounds-equal-end
-slice_bounds-equal-end c =
-    let l = c.loop-left in
-    let w = search_row c.args.f c.args.s.now c.args.nonce.now l.invariant (omega arith) c.requires.0 c.requires.1 in
-    omega (arith, w.inside, l.invariant.at-is)
+pub returns-then-eq : goal.returns-then-eq
+returns-then-eq c =
+    let s = c.args.s in
+    let N : List ℕ = c.args.nonce.now in
+    let is = ap (λ a. same a N) (sym c.nonce.ensures) ∙ same_is c.nonce.result.now N ∙ sym c.eq.ensures ∙ c.if-eq.true in
+    sym (any_at (λ i. same (nonce_of s.form s.bytes.now i) N) (count s.bytes.now) c.loop-i.i (omega (arith, c.count-i-end.ensures)) is)
 
-pub returns-then-equal : goal.returns-then-equal
-returns-then-equal c =
-    let l = c.loop-left in
-    let a = c.args in
-    search_found a.f a.s.now a.nonce.now l.invariant (omega arith) c.equal.ensures c.if-equal.true
-
-pub loop-left-preserved : goal.loop-left-preserved
-loop-left-preserved c =
-    let l = c.loop-left in
-    let a = c.args in
-    search_on a.f a.s.now a.nonce.now l.invariant (omega arith) (omega arith) c.equal.ensures c.if-equal.false
-
-pub returns : goal.returns
-returns c =
-    let a = c.args in
-    search_ended a.f a.s.now a.nonce.now c.loop-left.invariant (omega arith)
+pub loop-i-preserved : goal.loop-i-preserved
+loop-i-preserved c =
+    let s = c.args.s in
+    let N : List ℕ = c.args.nonce.now in
+    let is = ap (λ a. same a N) (sym c.nonce.ensures) ∙ same_is c.nonce.result.now N ∙ sym c.eq.ensures ∙ c.if-eq.false in
+    none_more (λ i. same (nonce_of s.form s.bytes.now i) N) c.loop-i.i c.loop-i.invariant is

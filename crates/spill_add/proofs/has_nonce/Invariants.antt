@@ -1,8 +1,8 @@
-use Rattle.spill_add.proofs.SameLaws.{Searched}
+use mathlib.Core.Path.{◌≡◌}
+use mathlib.Core.Bool.{false}
+use Rattle.standards.specs.Rfc7253.{same}
+use Rattle.spill_form.specs.File.{nonce_of, any_below}
 use Rattle.spill_add.proofs.has_nonce.Given as goal
 
-abbrev pub invariant-loop-left : goal.invariant-loop-left
-invariant-loop-left l = Searched l.f l.s l.nonce l.at l.left
-
-abbrev pub decreases-loop-left : goal.decreases-loop-left
-decreases-loop-left l = l.left
+abbrev pub invariant-loop-i : goal.invariant-loop-i
+invariant-loop-i l = any_below (λ i. same (nonce_of l.s.form l.s.bytes.now i) l.nonce) l.i ≡ false

@@ -1,23 +1,33 @@
--- `spill_form::check` meets its contract: two lengths are tested, and then the file's bytes.
-use mathlib.Core.Path.{◌∙◌}
+-- `check` meets its contract: two lengths are tested, then the table, the rows and what is behind them. Assumes nothing.
+use mathlib.Core.Path.{◌≡◌}
 use native.Mathlib.Omega.{arith}
-use borrow.Author.Tests.{lt-ltb}
-use lib.Dec.{ltb}
-use lib.ListN.{length}
-use Rattle.spill_form.proofs.FileLaws.{or_left, or_right, too_long, fits}
+use borrow.Author.Rules.{rules}
+use Rattle.spill_form.specs.File.{file_number}
+use Rattle.spill_form.proofs.FileLaws.{flawed_file, longer_file, whole_file, tableless_file}
 use Rattle.spill_form.proofs.check.Goals as goal
 
-pub returns-then-buffer-file : goal.returns-then-buffer-file
-returns-then-buffer-file c =
-    let a = c.args in
-    too_long a.f a.buffer.now a.file (or_left _ _ (lt-ltb _ _ c.if-buffer-file.true))
+pub returns-then-buffer-file-clause-number : goal.returns-then-buffer-file-clause-number
+unfolding file_number
+returns-then-buffer-file-clause-number c = search rules
 
-pub returns-then-file-gt-MOST_BYTES : goal.returns-then-file-gt-MOST_BYTES
-returns-then-file-gt-MOST_BYTES c =
+pub returns-in_err-file-clause-number : goal.returns-in_err-file-clause-number
+returns-in_err-file-clause-number c =
     let a = c.args in
-    too_long a.f a.buffer.now a.file (or_right (ltb (length a.buffer.now) a.file) _ (lt-ltb _ _ c.if-file-gt-MOST_BYTES.true))
+    let e : 10 ≡ file_number a.form a.buffer.now a.file = tableless_file a.form a.buffer.now a.file (omega arith) (omega arith) c.in_err-file.ensures.1 in
+    search rules
 
-pub returns : goal.returns
-returns c =
+pub returns-in_err-end-clause-number : goal.returns-in_err-end-clause-number
+returns-in_err-end-clause-number c =
     let a = c.args in
-    c.check_content.ensures ∙ fits a.f a.buffer.now a.file (omega arith) (omega arith)
+    let e : 11 ≡ file_number a.form a.buffer.now a.file = flawed_file a.form a.buffer.now a.file (omega arith) (omega arith) c.in_ok-file.ensures c.in_ok-file.file.table c.in_err-end.ensures.1 in
+    search rules
+
+pub returns-then-branch-file-clause-number : goal.returns-then-branch-file-clause-number
+returns-then-branch-file-clause-number c =
+    let a = c.args in
+    longer_file a.form a.buffer.now a.file (omega arith) (omega arith) c.in_ok-file.ensures c.in_ok-file.file.table c.in_ok-end.ensures c.if-branch-file.true
+
+pub returns-clause-number : goal.returns-clause-number
+returns-clause-number c =
+    let a = c.args in
+    whole_file a.form a.buffer.now a.file (omega arith) (omega arith) c.in_ok-file.ensures c.in_ok-file.file.table c.in_ok-end.ensures c.if-branch-file.false

@@ -1,40 +1,41 @@
--- `spill_read::open_row` meets its contract: open's refusals leave the output, and behind them the row is opened from its parts. Assumes nothing.
-use mathlib.Core.Path.{ap}
+-- `open_row` meets its contract: open's refusals leave the output, and behind them the row is opened from its parts. Assumes nothing.
+use Rattle.std.specs.Prelude.{Err}
+use mathlib.Core.Path.{◌≡◌, refl, ap}
 use Prim.Native.Nat.{ℕ, ◌-◌}
 use native.Mathlib.Omega.{arith}
 use borrow.Author.Rules.{rules}
-use Rattle.spill_form.proofs.FileLaws.{has_row}
-use Rattle.spill_read.proofs.ReadLaws.{row_of, row_refused, row_opened}
+use Rattle.ocb_numbers.proofs.Refusals.{numbered_from_1}
+use Rattle.spill_form.specs.declared.Refusal.TheVariants.{Sizes}
+use Rattle.spill_read.proofs.ReadLaws.{row_of, row_refused, row_opened, replied}
 use Rattle.spill_read.proofs.open_row.Goals as goal
 
-pub returns-then-number-ne0 : goal.returns-then-number-ne0
-returns-then-number-ne0 c =
+pub returns-in_err-refuse : goal.returns-in_err-refuse
+returns-in_err-refuse c =
     let a = c.args in
-    row_refused a.f a.s.now a.row c.requires.0 c.requires.1 c.requires.3 a.state a.out.now
-    (ap (λ (x : ℕ). x - (16 - a.f.tag_in_row)) c.field-size.ensures.0) c.refuse-number.ensures (λ z. omega (arith, c.if-number-ne0.true))
+    let e = c.in_err-refuse.field-0.0 in
+    let is : c.from_residual.result ≡ Err (Sizes e) = search rules in
+    replied (Sizes e) is
+    (row_refused a.s.form a.s.bytes.now a.row a.s.small c.requires.0 c.requires.1 a.state a.out.now
+    (ap (λ (x : ℕ). x - (16 - a.s.form.tag_in_row)) c.size.ensures.0) c.in_err-refuse.ensures (numbered_from_1 e))
+
+pub tag_of-tag-requires : goal.tag_of-tag-requires
+tag_of-tag-requires c =
+    let a = c.args in
+    let w = row_of a.s.form a.s.bytes.now a.row a.s.small c.requires.0 c.requires.1 in
+    (omega (arith, c.row_at-at.ensures, w.row_end), omega (arith, c.place-place.ensures.0, c.size.ensures.0, w.least, w.body_end))
 
 pub open_at-requires : goal.open_at-requires
 open_at-requires c =
-    let w = row_of c.args.f c.args.s.now c.args.row c.requires.0 c.requires.1 c.requires.3 in (
+    let a = c.args in
+    let w = row_of a.s.form a.s.bytes.now a.row a.s.small c.requires.0 c.requires.1 in (
       omega (arith, c.row_at-at.ensures, w.row_end),
-      omega (arith, c.field-place.ensures.0, c.field-size.ensures.0, w.least, w.body_end),
-      omega (arith, c.field-size.ensures.0, c.requires.4),
+      omega (arith, c.place-place.ensures.0, c.size.ensures.0, w.least, w.body_end),
+      omega (arith, c.size.ensures.0, c.requires.2),
     )
 
 pub returns : goal.returns
 returns c =
     let a = c.args in
-    row_opened a.f a.s.now a.row c.requires.0 c.requires.1 c.requires.3 a.state a.out.now
-    (ap (λ (x : ℕ). x - (16 - a.f.tag_in_row)) c.field-size.ensures.0) c.refuse-number.ensures c.row_at-at.ensures c.field-place.ensures.0
-    c.if-number-ne0.false c.tag_of-tag.ensures c.open_at.ensures
-
-pub field-place-requires : goal.field-place-requires
-field-place-requires c = (has_row c.args.f c.args.s.now c.args.row c.requires.0 c.requires.1.table c.requires.3, search rules)
-
-pub field-size-requires : goal.field-size-requires
-field-size-requires c = (has_row c.args.f c.args.s.now c.args.row c.requires.0 c.requires.1.table c.requires.3, search rules)
-
-pub tag_of-tag-requires : goal.tag_of-tag-requires
-tag_of-tag-requires c =
-    let w = row_of c.args.f c.args.s.now c.args.row c.requires.0 c.requires.1 c.requires.3 in
-    (c.requires.0, omega (arith, c.row_at-at.ensures, w.row_end), omega (arith, c.field-place.ensures.0, c.field-size.ensures.0, w.least, w.body_end))
+    row_opened a.s.form a.s.bytes.now a.row a.s.small c.requires.0 c.requires.1 a.state a.out.now
+    (ap (λ (x : ℕ). x - (16 - a.s.form.tag_in_row)) c.size.ensures.0) c.in_ok-refuse.ensures c.row_at-at.ensures c.place-place.ensures.0
+    refl c.tag_of-tag.ensures c.open_at.ensures

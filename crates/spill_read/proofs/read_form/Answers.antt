@@ -1,48 +1,41 @@
--- `spill_read::read_form` meets its contract: the file's numbers, the row's, and the row opened. Assumes nothing.
-use mathlib.Core.Path.{sym, ◌∙◌}
-use native.Mathlib.Omega.{arith}
-use lib.ListN.{length, take}
-use lib.Seq.{length-take-le}
-use Rattle.spill_form.proofs.FileLaws.{within}
-use Rattle.spill_read.proofs.ReadLaws.{readable, refused_file, refused_row, read_row}
+-- `read_form` meets its contract: the file's refusals, the row's, and the row opened. Assumes nothing.
+use Rattle.std.specs.Prelude.{Err}
+use mathlib.Core.Path.{◌≡◌, sym}
+use lib.ListN.{length}
+use borrow.Author.Rules.{rules}
+use Rattle.spill_form.proofs.FileLaws.{checked}
+use Rattle.spill_read.proofs.ReadLaws.{readable, refused_file, refused_row, read_row, replied}
 use Rattle.spill_read.proofs.read_form.Goals as goal
 
-pub returns-then-refused-ne0 : goal.returns-then-refused-ne0
-returns-then-refused-ne0 c =
+pub returns-in_err-s : goal.returns-in_err-s
+returns-in_err-s c =
     let a = c.args in
-    refused_file a.f a.state a.buffer.now a.file a.row a.asking a.out.now c.check-refused.ensures (λ z. omega (arith, c.if-refused-ne0.true))
+    let e = c.in_err-s.field-0.0 in
+    let is : c.from_residual.result ≡ Err e = search rules in
+    replied e is (refused_file a.f a.state a.buffer.now a.file a.row a.asking a.out.now e c.in_err-s.ensures.number)
 
-pub returns-then-number-ne0 : goal.returns-then-number-ne0
-returns-then-number-ne0 c =
+pub refuse_row-requires : goal.refuse_row-requires
+refuse_row-requires c =
     let a = c.args in
-    refused_row a.f a.state a.buffer.now a.file a.row a.asking a.out.now (sym c.check-refused.ensures ∙ c.if-refused-ne0.false)
-    c.refuse_row-number.ensures (λ z. omega (arith, c.if-number-ne0.true))
+    checked a.f a.buffer.now a.file c.in_ok-s.ensures.accepted c.in_ok-s.ensures.number
+
+pub returns-in_err-refuse_row : goal.returns-in_err-refuse_row
+returns-in_err-refuse_row c =
+    let a = c.args in
+    let e = c.in_err-refuse_row.field-0.0 in
+    let is : c.from_residual-in_err-refuse_row.result ≡ Err e = search rules in
+    replied e is
+    (refused_row a.f a.state a.buffer.now a.file a.row a.asking a.out.now c.in_ok-s.ensures.accepted c.in_ok-s.ensures.number e c.in_err-refuse_row.ensures)
 
 pub open_row-requires : goal.open_row-requires
 open_row-requires c =
     let a = c.args in
-    let w = within a.f a.buffer.now a.file (sym c.check-refused.ensures ∙ c.if-refused-ne0.false) in
-    let r =
-    readable a.f (take a.file a.buffer.now) a.row a.asking (length a.out.now) (sym c.refuse_row-number.ensures ∙ c.if-number-ne0.false) in
-    (c.requires, w.content, omega (arith, length-take-le a.file a.buffer.now w.lent, w.most), omega (arith, r.below), omega (arith, r.fits))
+    let s = c.in_ok-s.s in
+    let r = readable s.form s.bytes.now a.row a.asking (length a.out.now) (sym c.in_ok-refuse_row.ensures) in
+    (checked a.f a.buffer.now a.file c.in_ok-s.ensures.accepted c.in_ok-s.ensures.number, r.below, r.fits)
 
 pub returns : goal.returns
 returns c =
     let a = c.args in
-    read_row a.f a.state a.buffer.now a.file a.row a.asking a.out.now (sym c.check-refused.ensures ∙ c.if-refused-ne0.false)
-    (sym c.refuse_row-number.ensures ∙ c.if-number-ne0.false) c.open_row.ensures
-
-pub slice_bounds-refuse_row-end : goal.slice_bounds-refuse_row-end
-slice_bounds-refuse_row-end c =
-    let a = c.args in
-    sym (length-take-le _ _ (within a.f a.buffer.now a.file (sym c.check-refused.ensures ∙ c.if-refused-ne0.false)).lent)
-
-pub refuse_row-number-requires : goal.refuse_row-number-requires
-refuse_row-number-requires c =
-    let a = c.args in
-    (c.requires, (within a.f a.buffer.now a.file (sym c.check-refused.ensures ∙ c.if-refused-ne0.false)).content)
-
-pub slice_bounds-open_row-end : goal.slice_bounds-open_row-end
-slice_bounds-open_row-end c =
-    let a = c.args in
-    sym (length-take-le _ _ (within a.f a.buffer.now a.file (sym c.check-refused.ensures ∙ c.if-refused-ne0.false)).lent)
+    read_row a.f a.state a.buffer.now a.file a.row a.asking a.out.now c.in_ok-s.ensures.accepted c.in_ok-s.ensures.number
+    c.in_ok-refuse_row.ensures c.open_row.ensures
