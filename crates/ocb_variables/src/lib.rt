@@ -105,8 +105,7 @@ fn nonce_block(nonce: &[u8], t: usize) -> Block
     let mut out = [0u8; 16];
     out[0] = (8 * t % 128 * 2) as u8;
     block::copy_at(&mut out, 16 - len, nonce);
-    let mark = 15 - len;
-    out[mark] = out[mark] | 1;
+    out[15 - len] |= 1;
     out
 }
 
@@ -134,9 +133,8 @@ pub fn nonce_dependent_variables(cipher: &Cipher<'_>, nonce: &[u8], t: usize) ->
     ensures { result ≡ variables_of (enc cipher.now.rounds cipher.now.round_keys.now) t nonce.now }
 {
     let mut top = nonce_block(nonce, t);
-    let last = top[15];
-    let bottom = (last & 63) as usize;
-    top[15] = last & 192;
+    let bottom = (top[15] & 63) as usize;
+    top[15] &= 192;
     let stretch = stretch_of(cipher.encipher(top));
     NonceVariables { bottom, stretch }
 }
