@@ -17,26 +17,12 @@ use Rattle.ocb_laws.proofs.RoundTrip.{decrypt_split}
 use Rattle.ocb_laws.proofs.Calls.{encrypt_calls, decrypt_calls}
 use Rattle.ocb_variables.specs.declared.State.{State}
 use Rattle.ocb_variables.specs.Held.{held}
-use Rattle.ocb_steps.specs.declared.Run.{Run}
-use Rattle.ocb_walk.specs.Walked.{Ended}
 use Rattle.ocb.specs.declared.Answer.{Answer}
 use Rattle.ocb_numbers.specs.declared.Refusal.{Refusal}
 use Rattle.ocb_numbers.specs.Numbers.{number_of, refusal, count, InRange}
 use Rattle.ocb.specs.Answers.{Outcome, untouched, seal_refused, open_refused, unless, encrypted, verdict, decrypted, sealed, opened, Leaves}
 use Rattle.ocb.specs.Inner.{Encrypted, Decrypted}
 use Rattle.ocb_numbers.proofs.Refusals.{numbered_from_1, in_range}
-
--- ---- the inner functions: o is the first offset, r the run behind the last block, full the whole tag
-
-pub encrypt_made : {o full C T' : List ℕ} {r : Run} (K : Key) (N A P T : List ℕ) → o ≡ initial_offset K.ENCIPHER (length T) N
-    → Ended seal_block seal_sum K o P C r → full ≡ Tag K r.sum r.offset A → T' ≡ take (length T) full
-    → Encrypted K N A P T C T'
-encrypt_made K N A P T eo w ef et = let a = w.text_is in let b = w.run_is in record { text_is = cc; tag_is = cc }
-
-pub decrypt_made : {o full P : List ℕ} {r : Run} {valid : Bool} (K : Key) (N A C T : List ℕ) → o ≡ initial_offset K.ENCIPHER (length T) N
-    → Ended open_block open_sum K o C P r → full ≡ Tag K r.sum r.offset A → valid ≡ same (take (length T) full) T
-    → Decrypted K N A C T P valid
-decrypt_made K N A C T eo w ef et = let a = w.text_is in let b = w.run_is in record { text_is = cc; valid-is = cc }
 
 -- ---- the work done, for sizes in range and a cipher that gives blocks
 

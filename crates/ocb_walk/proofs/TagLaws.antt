@@ -1,16 +1,15 @@
--- The comparison of tags: the difference of the bytes so far is 0 where they are all the same, and each turn of the loop keeps that. And a tag written.
+-- The comparison of tags: the difference of the bytes so far is 0 where they are all the same, and each turn of the loop keeps that.
 -- Assumes nothing.
 use mathlib.Core.Path.{◌≡◌, refl, sym, ap, ap₂, ◌∙◌}
 use mathlib.Core.Bool.{Bool, true, false, ◌&&◌}
-use mathlib.Core.List.{List, [], ◌∷◌, ◌++◌, append-nil}
-use Prim.Native.Nat.{ℕ, zero, suc, ◌+◌, ◌<◌, ◌≤◌}
+use mathlib.Core.List.{List, [], ◌∷◌}
+use Prim.Native.Nat.{ℕ, zero, suc, ◌+◌, ◌<◌}
 use native.Mathlib.Nat.{not-suc-le-zero, le_of_suc-le-suc}
 use native.Mathlib.Numerals.{add-one}
 use native.Mathlib.Omega.{arith}
 use lib.Bits.{bit_or, or_add_and, and_le_l, and_le_r}
 use lib.Dec.{eqb}
-use lib.ListN.{length, get_or, take, drop, drop_of_length-le}
-use lib.Seq.{take-length, length-take-le}
+use lib.ListN.{length, get_or, take}
 use borrow.Author.Tests.{eqb-true, eq-eqb}
 use Rattle.standards.specs.Strings.{◌⊕◌}
 use Rattle.standards.specs.Rfc7253.{same}
@@ -72,12 +71,3 @@ same_turn S T i d h l e =
     ∙ ap₂ (λ (a b : Bool). a && b) e (xor-zero (get_or S i 0) (get_or T i 0))
     ∙ sym (same_suc S T i h l)
     ∙ ap (λ (k : ℕ). same (take k S) (take k T)) (sym (add-one i))
-
--- the front of S copied over the whole of P
-pub front_written : {P' : List ℕ} (P S : List ℕ) → length P ≤ length S
-    → P' ≡ take (length (take (length P) S)) (take (length P) S) ++ drop (length (take (length P) S)) P → P' ≡ take (length P) S
-front_written P S h e =
-    let front : length (take (length P) S) ≡ length P = length-take-le (length P) S h in
-    e
-    ∙ ap₂ (λ (x y : List ℕ). x ++ y) (take-length (take (length P) S)) (drop_of_length-le P {i = length (take (length P) S)} (omega arith))
-    ∙ append-nil (take (length P) S)
