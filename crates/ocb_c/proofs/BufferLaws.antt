@@ -25,13 +25,6 @@ pub record Sizes (s : State) : Type 0 where
 
 -- ---- reading
 
--- what is copied over the whole of an array is what the array holds
-pub copied_whole : {x : List ℕ} (S Z : List ℕ) → length S ≡ length Z → x ≡ take (length Z) S ++ drop (length S) Z → x ≡ S
-copied_whole S Z h e =
-    e
-    ∙ ap₂ (λ (a b : List ℕ). a ++ b) (take_all (length Z) S (omega arith)) (drop_of_length-le Z {i = length S} (omega arith))
-    ∙ append-nil S
-
 -- the fields, each read where it lies
 pub decode_made : {keys star dollar table : List ℕ} {rounds m : ℕ} (B : List ℕ)
     → keys ≡ take round_key_bytes B → rounds ≡ num (take 8 (drop rounds_at B)) → star ≡ take 16 (drop star_at B)

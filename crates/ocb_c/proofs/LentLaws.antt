@@ -1,103 +1,40 @@
--- The functions that ocb_link exports, against the entry points: the buffer's size is tested first, and behind that test each is the entry point over the
--- state that the buffer holds. A buffer that ocb_set_up wrote holds the state that set_up gives. Assumes nothing.
-use mathlib.Core.Path.{◌≡◌, refl, sym, ap, subst, ◌∙◌}
+-- A buffer that ocb_set_up wrote holds the state that set_up gives, and each promise of the functions that ocb_link exports admits one answer. Assumes nothing.
+use mathlib.Core.Path.{◌≡◌, refl, sym, ap, ◌∙◌}
 use mathlib.Core.Bool.{not}
 use mathlib.Core.List.{List}
 use Prim.Native.Nat.{ℕ, zero, suc, ◌≤◌}
 use native.Mathlib.Omega.{arith}
-use borrow.Author.Tests.{eqb-true, not-false, eq-eqb, ne_eqb}
-use lib.Dec.{eqb, lit<, lit≤}
+use borrow.Author.Tests.{eq-eqb}
+use lib.Dec.{lit<}
 use lib.ListN.{length}
 use Rattle.sizes.specs.Sizes.{rounds_for, KeyLength, m_most}
 use Rattle.sizes.proofs.KeyLaws.{rounds_for_lem, rounds_within}
 use Rattle.standards.specs.Strings.{Bytes}
 use Rattle.aes.specs.Schedule.{round_keys_of}
 use Rattle.aes.proofs.Expansion.{round_keys_bytes, round_keys_length}
-use Rattle.ocb_variables.specs.declared.State.{State}
 use Rattle.ocb_variables.specs.State.{state_of, state_for}
 use Rattle.ocb_variables.proofs.KeyLaws.{state_sized}
-use Rattle.ocb.specs.declared.SetUp.{SetUp}
 use Rattle.ocb.specs.declared.Answer.{Answer}
 use Rattle.ocb_numbers.specs.Numbers.{set_up_number}
-use Rattle.ocb_numbers.proofs.RuleLaws.{first-at, first-none, none_applies}
+use Rattle.ocb_numbers.proofs.RuleLaws.{first-none}
 use Rattle.ocb_numbers.proofs.Refusals.{set_up_sizes}
-use Rattle.ocb.specs.Answers.{zero_state, made_unless, set_up, Outcome, untouched, unless, Leaves}
-use Rattle.ocb.proofs.Outcomes.{by_number, by_none}
+use Rattle.ocb.specs.Answers.{zero_state, made_unless, set_up, Leaves}
 use Rattle.ocb.proofs.Demands.{single}
-use Rattle.spill_form.specs.Reading.{Reading, unless_read}
-use Rattle.spill_form.specs.Adding.{Adding, unless_add}
 use Rattle.spill_read.specs.Reads.{Reads}
 use Rattle.spill_read.specs.declared.Reply.{Reply}
-use Rattle.spill_read.proofs.ReadLaws.{not_read}
 use Rattle.spill_read.proofs.Isolation as reading
 use Rattle.spill_add.specs.Adds.{Adds}
 use Rattle.spill_add.specs.declared.Addition.{Addition}
-use Rattle.spill_add.proofs.AddLaws.{not_added}
 use Rattle.spill_add.proofs.Additions as adding
-use Rattle.ocb_c.specs.Buffer.{state_size, encoded, decoded}
+use Rattle.ocb_c.specs.Buffer.{state_size, decoded}
 use Rattle.ocb_c.specs.Lent.{buffer_rules, size_number, into, set_up_in, Kept, sealed_in, opened_in, read_in, added_in}
 use Rattle.ocb_c.proofs.BufferLaws.{Sizes, decode-encode}
 
 -- ---- the buffer's size
 
-pub size_wrong : (B : List ℕ) → (length B ≡ state_size → ⊥) → 40 ≡ size_number B
-unfolding size_number
-size_wrong B h = sym (first-at 0 (buffer_rules B) tt (ap not (ne_eqb (length B) state_size h)))
-
 pub size_right : (B : List ℕ) → length B ≡ state_size → 0 ≡ size_number B
 unfolding size_number
 size_right B h = sym (first-none (buffer_rules B) (ap not (eq-eqb (length B) state_size h), tt))
-
-pub admitted : (B : List ℕ) → size_number B ≡ 0 → length B ≡ state_size
-unfolding size_number
-admitted B e =
-    let none = none_applies 40 (buffer_rules B) (lit< tt, lit≤ tt, tt) e in
-    eqb-true (length B) state_size (not-false (eqb (length B) state_size) none.0)
-
--- ---- refused by the size, or done
-
-module _ {n : ℕ} (B : List ℕ) (e : n ≡ size_number B) where
-  pub set_up_refused : (key : List ℕ) (m : ℕ) → (n ≡ 0 → ⊥) → Kept (set_up_in B key m) n B
-  unfolding set_up_in
-  set_up_refused key m h = subst (λ (k : ℕ). Kept (into k B (set_up key m)) n B) e (go n h)
-    where
-      go : (k : ℕ) → (k ≡ 0 → ⊥) → Kept (into k B (set_up key m)) k B
-      go zero h = absurd (h refl)
-      go (suc k) h = record { number_is = refl; buffer_left = refl }
-
-  pub set_up_done : {u : SetUp} {B' : List ℕ} (key : List ℕ) (m : ℕ) → n ≡ 0 → u ≡ set_up key m → B' ≡ encoded u.state
-      → Kept (set_up_in B key m) u.number B'
-  unfolding set_up_in
-  set_up_done {u} {B'} key m z eu eb =
-      subst (λ (k : ℕ). Kept (into k B (set_up key m)) u.number B') (sym z ∙ e)
-      (record { number_is = ap (λ (v : SetUp). v.number) eu; buffer_left = eb ∙ ap (λ (v : SetUp). encoded v.state) eu })
-
-  -- seal and open alike: o is what the entry point leaves
-  pub refused : (o : Outcome) (S T : List ℕ) → (n ≡ 0 → ⊥) → Leaves (unless (size_number B) (untouched S T) o) (record { number = n; calls = 0 }) S T
-  refused o S T h = by_number o S T e h
-
-  pub done : {r : Answer} {s : State} {S' T' : List ℕ} (answer : State → Outcome) (refuse : ℕ → Outcome) → n ≡ 0 → s ≡ decoded B → Leaves (answer s) r S' T'
-      → Leaves (unless (size_number B) refuse (answer (decoded B))) r S' T'
-  done {r} {s} {S'} {T'} answer refuse z es L =
-      by_none refuse e z (subst (λ (v : State). Leaves (answer v) r S' T') es L)
-
-  -- reading and adding
-  pub read-refused : (x : Reading) (out : List ℕ) → (n ≡ 0 → ⊥) → Reads (unless_read (size_number B) out x) (record { number = n; calls = 0; written = 0 }) out
-  read-refused x out h = not_read (size_number B) out x e h
-
-  pub read_done : {r : Reply} {s : State} {out' : List ℕ} (answer : State → Reading) (out : List ℕ) → n ≡ 0 → s ≡ decoded B → Reads (answer s) r out'
-      → Reads (unless_read (size_number B) out (answer (decoded B))) r out'
-  read_done {r} {s} {out'} answer out z es R =
-      subst (λ (k : ℕ). Reads (unless_read k out (answer (decoded B))) r out') (sym z ∙ e) (subst (λ (v : State). Reads (answer v) r out') es R)
-
-  pub add_refused : (x : Adding) (F : List ℕ) (file : ℕ) → (n ≡ 0 → ⊥)
-      → Adds (unless_add (size_number B) F file x) (record { number = n; calls = 0; file = file }) F
-  add_refused x F file h = not_added (size_number B) F file x e h
-
-  pub add_done : {r : Addition} {s : State} {F' : List ℕ} (answer : State → Adding) (F : List ℕ) (file : ℕ) → n ≡ 0 → s ≡ decoded B → Adds (answer s) r F'
-      → Adds (unless_add (size_number B) F file (answer (decoded B))) r F'
-  add_done {r} {s} {F'} answer F file z es A =
-      subst (λ (k : ℕ). Adds (unless_add k F file (answer (decoded B))) r F') (sym z ∙ e) (subst (λ (v : State). Adds (answer v) r F') es A)
 
 -- ---- the state that set_up gives, in the buffer that ocb_set_up leaves
 

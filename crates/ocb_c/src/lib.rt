@@ -2,7 +2,7 @@
 // buffer that the caller lends; specs/Buffer.antt says how it lies there. include/ocb.h is the same for a reader of C.
 #![tactic(auto)]
 
-ghost use Rattle.std.specs.Prelude.{◌≡◌, length};
+ghost use Rattle.std.specs.Prelude.{◌≡◌, length, MatchOption};
 ghost use Rattle.ocb.specs.Answers.{Leaves};
 ghost use Rattle.ocb_c.specs.Buffer.{state_size, encoded, decoded};
 ghost use Rattle.spill_read.specs.Reads.{Reads};
@@ -26,30 +26,38 @@ const TABLE_AT: usize = M_AT + 8;
 
 const STATE_SIZE: usize = TABLE_AT + TABLE_BYTES;
 
-// The state that a buffer holds.
-fn decode(buffer: &[u8]) -> State
-    requires { length buffer.now ≡ state_size }
-    ensures { result ≡ decoded buffer.now }
+// What a buffer of another length is answered with, before every other number.
+const NO_STATE: usize = 40;
+
+// The state that a buffer holds; none where its length is not a state's.
+#[tactic(auto, unfolding(crate::specs::Lent::size_number))]
+fn decode(buffer: &[u8]) -> Option<State>
+    ensures { MatchOption result
+        (size_number buffer.now ≡ NO_STATE)
+        (λ s. (size_number buffer.now ≡ 0) × (s ≡ decoded buffer.now)) }
 {
+    if buffer.len() != STATE_SIZE {
+        return None;
+    }
     let mut round_keys = [0u8; ROUND_KEY_BYTES];
-    block::copy(&buffer[0..ROUNDS_AT], &mut round_keys);
+    round_keys.copy_from_slice(&buffer[0..ROUNDS_AT]);
     let rounds = block::load_be64(buffer, ROUNDS_AT) as usize;
     let star = block::load(buffer, STAR_AT);
     let dollar = block::load(buffer, DOLLAR_AT);
     let m = block::load_be64(buffer, M_AT) as usize;
     let mut table = [0u8; TABLE_BYTES];
-    block::copy(&buffer[TABLE_AT..STATE_SIZE], &mut table);
+    table.copy_from_slice(&buffer[TABLE_AT..STATE_SIZE]);
     let values = KeyValues {
-        rounds: rounds,
-        star: star,
-        dollar: dollar,
-        m: m,
+        rounds,
+        star,
+        dollar,
+        m,
     };
-    State {
-        round_keys: round_keys,
-        values: values,
-        table: table,
-    }
+    Some(State {
+        round_keys,
+        values,
+        table,
+    })
 }
 
 // Writes a state over a buffer.
@@ -79,25 +87,15 @@ pub fn ocb_state_size() -> usize
     STATE_SIZE
 }
 
-// The number that a buffer's length asks for: 40 where it is not a state's.
-fn refuse_size(buffer: &[u8]) -> usize
-    ensures { result ≡ size_number buffer.now }
-{
-    if buffer.len() != STATE_SIZE {
-        return 40;
-    }
-    0
-}
-
 // ---- The entry points
 
 // Makes the state of a key of 16, 24 or 32 bytes in the buffer, for texts and data of at most 2^m blocks; m is 1 to 26.
+#[tactic(auto, unfolding(crate::specs::Lent::set_up_in, crate::specs::Lent::size_number))]
 pub fn ocb_set_up(state: &mut [u8], key: &[u8], m: usize) -> usize
     ensures { Kept (set_up_in state.old key.now m) result state.new }
 {
-    let refused = refuse_size(state);
-    if refused != 0 {
-        return refused;
+    if state.len() != STATE_SIZE {
+        return NO_STATE;
     }
     let made = ocb::set_up(key, m);
     encode(made.state, state);
@@ -105,6 +103,7 @@ pub fn ocb_set_up(state: &mut [u8], key: &[u8], m: usize) -> usize
 }
 
 // Seals the text where it lies and writes the tag; `calls` takes the count of cipher calls.
+#[tactic(auto, unfolding(crate::specs::Lent::sealed_in))]
 pub fn ocb_seal(
     state: &[u8],
     nonce: &[u8],
@@ -116,17 +115,17 @@ pub fn ocb_seal(
     ensures { Leaves (sealed_in state.now nonce.now ad.now text.old tag.old)
         (record { number = result; calls = calls.new }) text.new tag.new }
 {
-    let refused = refuse_size(state);
-    if refused != 0 {
+    let Some(held) = decode(state) else {
         *calls = 0;
-        return refused;
-    }
-    let answer = ocb::seal(decode(state), nonce, ad, text, tag);
+        return NO_STATE;
+    };
+    let answer = ocb::seal(held, nonce, ad, text, tag);
     *calls = answer.calls;
     answer.number
 }
 
 // Opens the text where it lies, or makes it zeros; `calls` takes the count of cipher calls.
+#[tactic(auto, unfolding(crate::specs::Lent::opened_in))]
 pub fn ocb_open(
     state: &[u8],
     nonce: &[u8],
@@ -138,12 +137,11 @@ pub fn ocb_open(
     ensures { Leaves (opened_in state.now nonce.now ad.now text.old tag.now)
         (record { number = result; calls = calls.new }) text.new tag.now }
 {
-    let refused = refuse_size(state);
-    if refused != 0 {
+    let Some(held) = decode(state) else {
         *calls = 0;
-        return refused;
-    }
-    let answer = ocb::open(decode(state), nonce, ad, text, tag);
+        return NO_STATE;
+    };
+    let answer = ocb::open(held, nonce, ad, text, tag);
     *calls = answer.calls;
     answer.number
 }
@@ -152,6 +150,7 @@ pub fn ocb_open(
 
 // Reads a row of the file that is the first `file` bytes of the buffer into the front of the output; `written` takes how many bytes of it
 // were written, `calls` the count of cipher calls.
+#[tactic(auto, unfolding(crate::specs::Lent::read_in))]
 pub fn spill_read(
     state: &[u8],
     buffer: &[u8],
@@ -165,13 +164,12 @@ pub fn spill_read(
     ensures { Reads (read_in state.now buffer.now file row tenant out.old)
         (record { number = result; calls = calls.new; written = written.new }) out.new }
 {
-    let refused = refuse_size(state);
-    if refused != 0 {
+    let Some(held) = decode(state) else {
         *written = 0;
         *calls = 0;
-        return refused;
-    }
-    let reply = spill_read::read(decode(state), buffer, file, row, tenant, out);
+        return NO_STATE;
+    };
+    let reply = spill_read::read(held, buffer, file, row, tenant, out);
     *written = reply.written;
     *calls = reply.calls;
     reply.number
@@ -179,6 +177,7 @@ pub fn spill_read(
 
 // Adds a text as a row of the file that is the first `file` bytes of the buffer; `new_length` takes the file's length afterwards, `calls` the
 // count of cipher calls.
+#[tactic(auto, unfolding(crate::specs::Lent::added_in))]
 pub fn spill_add(
     state: &[u8],
     buffer: &mut [u8],
@@ -192,13 +191,12 @@ pub fn spill_add(
     ensures { Adds (added_in state.now buffer.old file nonce.now tenant text.now)
         (record { number = result; calls = calls.new; file = new_length.new }) buffer.new }
 {
-    let refused = refuse_size(state);
-    if refused != 0 {
+    let Some(held) = decode(state) else {
         *new_length = file;
         *calls = 0;
-        return refused;
-    }
-    let addition = spill_add::add(decode(state), buffer, file, nonce, tenant, text);
+        return NO_STATE;
+    };
+    let addition = spill_add::add(held, buffer, file, nonce, tenant, text);
     *new_length = addition.file;
     *calls = addition.calls;
     addition.number

@@ -66,7 +66,8 @@ impl From<ocb_numbers::Refusal> for Refusal {
     }
 }
 
-// How many of a tag's sixteen bytes stand in the row. The rest of them stand behind the ciphertext.
+// How many of a tag's sixteen bytes stand in the row. The rest of them stand behind the ciphertext. That they are at most sixteen stands in File and in
+// clauses, and not here: the definitions and `read_isolated` speak of every Form.
 #[derive(Clone, Copy)]
 pub struct Form {
     pub tag_in_row: usize,
@@ -178,7 +179,7 @@ impl<'a> File<'a> {
     }
 }
 
-// The file of the bytes s, where they start with a table.
+// The file that the bytes are, where they start with a table.
 #[tactic(auto, unfolding(crate::specs::File::no_table))]
 fn tabled<'a>(form: Form, bytes: &'a [u8]) -> Result<File<'a>, Refusal>
     requires { (form.tag_in_row ≤ 16) × (length bytes.now ≤ most_bytes) }

@@ -25,7 +25,8 @@ fn raise(f: Form, buffer: &mut [u8], n: usize, by: usize)
     }
 }
 
-// Writes a row at a place: the nonce, the tenant's number, the body's place and length, and what of the tag stands in the row.
+// Writes a row at a place: the nonce, the tenant's number, the body's place and length, and what of the tag stands in the row. They come apart: a struct
+// of them would be made for this call and taken apart in it.
 fn write_row(
     buffer: &mut [u8],
     at: usize,
@@ -73,11 +74,12 @@ fn seal_text(
     let answer = ocb::seal(s, nonce, &ad, &mut buffer[at..end], &mut tag);
     Sealed {
         calls: answer.calls,
-        tag: tag,
+        tag,
     }
 }
 
-// Lays a row and a body into a buffer that has room for them behind an accepted file of n rows. Gives how many blocks went to the cipher.
+// Lays a row and a body into a buffer that has room for them behind an accepted file of n rows. Gives how many blocks went to the cipher. The parameters
+// are those of spill_add::add, with the form and n: a File would lend the bytes that are written here.
 pub fn lay(
     f: Form,
     s: State,
