@@ -11,7 +11,8 @@ use lib.Seq.{take_all}
 use Rattle.ocb.specs.Answers.{Outcome}
 use Rattle.cases.specs.Case.{Decoded, bad, outcome}
 use Rattle.cases.proofs.Responded.{Told}
-use Rattle.stored.specs.Stored.{Tells, Owed, Decides}
+use Rattle.std.specs.Bool.{Decides}
+use Rattle.stored.specs.Stored.{Tells, Owed}
 
 -- an outcome by its parts
 whole : (o : Outcome) {n k : ℕ} {text tag : List ℕ} → n ≡ o.number → k ≡ o.calls → text ≡ o.text → tag ≡ o.tag

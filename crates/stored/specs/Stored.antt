@@ -39,7 +39,3 @@ TellsRead S x = TellsFile S x.number x.calls x.written x.out
 
 abbrev pub TellsAdd : List ℕ → Adding → Type 0
 TellsAdd S x = TellsFile S x.number x.calls x.file x.buffer
-
--- r says whether P holds
-abbrev pub Decides : Bool → Type 0 → Type 0
-Decides r P = (r ≡ true → P) × (P → r ≡ true)

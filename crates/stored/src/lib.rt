@@ -1,9 +1,10 @@
 // Whether the port answers a case as a stored list says. specs/Stored.antt says how an answer is stored.
 #![tactic(auto)]
 
+ghost use Rattle.std.specs.Bool.{Decides};
 ghost use Rattle.cases.specs.Case.{decode};
 ghost use Rattle.ocb_c.specs.Lent.{read_in, added_in};
-ghost use Rattle.stored.specs.Stored.{Tells, Owed, under, TellsFile, TellsRead, TellsAdd, Decides};
+ghost use Rattle.stored.specs.Stored.{Tells, Owed, under, TellsFile, TellsRead, TellsAdd};
 
 use cases::NoReply;
 
