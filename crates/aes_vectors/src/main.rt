@@ -25,30 +25,28 @@ fn expand(key: Key) -> Expanded
     ensures { Rounds result.rounds }
 {
     let bytes = key.bytes;
-    let length = key.length;
-    if ocb_numbers::refuse_set_up(length, 1).is_err() {
-        let zeros = [0u8; ROUND_KEY_BYTES];
+    if ocb_numbers::refuse_set_up(key.length, 1).is_err() {
         return Expanded {
-            keys: zeros,
+            keys: [0; ROUND_KEY_BYTES],
             rounds: ROUNDS_128,
         };
     }
     Expanded {
-        keys: aes::expand_key(&bytes[..length]),
-        rounds: aes::rounds_for(length),
+        keys: aes::expand_key(&bytes[..key.length]),
+        rounds: aes::rounds_for(key.length),
     }
 }
 
 fn enciphers(c: Case) -> bool {
     let expanded = expand(c.key);
     let made = Cipher::new(&expanded.keys, expanded.rounds).encipher(c.plain);
-    check::same(&made, &c.cipher)
+    made == c.cipher
 }
 
 fn deciphers(c: Case) -> bool {
     let expanded = expand(c.key);
     let made = Cipher::new(&expanded.keys, expanded.rounds).decipher(c.cipher);
-    check::same(&made, &c.plain)
+    made == c.plain
 }
 
 // Prints how many of a list agree, and which is the first that does not, counted from 1.

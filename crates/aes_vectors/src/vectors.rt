@@ -2,7 +2,7 @@
 use crate::hex::{block, unhex};
 use sizes::{Block, KEY_256, ROUND_KEY_BYTES, RoundKeys};
 
-// A key of the length given, at the front of the longest one's place.
+// A key of the length given, at the front of the longest one's place: there is no heap, and the three lengths go through one list.
 #[derive(Clone, Copy)]
 pub struct Key {
     pub bytes: [u8; KEY_256],
@@ -13,7 +13,7 @@ fn read_key(text: &[u8]) -> Key {
     let mut bytes = [0u8; KEY_256];
     unhex(text, &mut bytes);
     Key {
-        bytes: bytes,
+        bytes,
         length: text.len() / 2,
     }
 }

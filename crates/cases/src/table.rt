@@ -48,10 +48,10 @@ pub fn find(case: &[u8]) -> Option<Table>
     Some(Table {
         opens: case[0] == 1,
         m: case[1] as usize,
-        nonce: nonce,
-        ad: ad,
-        text: text,
-        tag: tag,
-        end: end,
+        nonce,
+        ad,
+        text,
+        tag,
+        end,
     })
 }

@@ -43,19 +43,15 @@ impl From<Refusal> for Answer {
 fn zero_state() -> State
     ensures { result ≡ zero_state }
 {
-    let keys = [0u8; ROUND_KEY_BYTES];
-    let table = [0u8; TABLE_BYTES];
-    let block = [0u8; 16];
-    let values = KeyValues {
-        rounds: 0,
-        star: block,
-        dollar: block,
-        m: 0,
-    };
     State {
-        round_keys: keys,
-        values: values,
-        table: table,
+        round_keys: [0; ROUND_KEY_BYTES],
+        values: KeyValues {
+            rounds: 0,
+            star: [0; 16],
+            dollar: [0; 16],
+            m: 0,
+        },
+        table: [0; TABLE_BYTES],
     }
 }
 

@@ -125,7 +125,7 @@ fn run_entries<R: Read, F: Fn(&mut R) -> Result<bool, Cut>>(from: &mut R, next: 
 {
     let entries = number(from).unwrap_or(0);
     let mut tally = Tally {
-        entries: entries,
+        entries,
         agreed: 0,
         wrong: None,
         whole: false,
