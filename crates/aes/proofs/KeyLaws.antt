@@ -1,48 +1,39 @@
--- The key schedule: what the code's branches, stores and turns do.
+-- The key schedule: what the code's branches and turns do.
 -- Assumes nothing.
 use mathlib.Core.Path.{◌≡◌, refl, sym, ap, ap₂, ◌∙◌}
-use mathlib.Core.List.{List, [], ◌∷◌, ◌++◌}
+use mathlib.Core.List.{List, [], ◌∷◌, ◌++◌, append_assoc}
 use Prim.Native.Nat.{ℕ, suc, ◌+◌, ◌-◌, ◌*◌, ◌/◌, ◌%◌, ◌<◌, ◌≤◌}
 use native.Mathlib.Nat.{le-div_iff_mul-le, div-lt_iff_lt-mul, le_of_suc-le-suc}
-use native.Mathlib.Numerals.{add-one, add-two, add-three}
 use native.Mathlib.Omega.{arith}
-use lib.ListN.{length, take, drop, set, length-append}
-use lib.Seq.{sets-eq, take_all, take_at, get_or-take, length-take-le}
+use lib.ListN.{length, take, length-append}
+use lib.Seq.{take_all, take_at, get_or-take, length-take-le}
 use borrow.Author.Tests.{eq-eqb, ne_eqb, lt-ltb, le-ltb}
 use Rattle.standards.specs.Fips197.{word, add_column, rot_word, sub_word, rcon_word, temp, next_word, schedule}
 
--- ---- the next word: what each way through the code's branches computes
+-- ---- temp: what each way through the code's branches computes
 
--- p and t are the two words before it that it is made of
-module _ (nk : ℕ) (w : List ℕ) (i : ℕ) (p t : List ℕ) (hp : p ≡ word w (i - nk)) (ht : t ≡ word w (i - 1)) where
-  next_by : (u r : List ℕ) → u ≡ temp nk i t → r ≡ add_column p u → r ≡ next_word nk w i
-  unfolding next_word
-  next_by u r hu hr = hr ∙ ap₂ add_column hp (hu ∙ ap (temp nk i) ht)
+module _ (nk i : ℕ) (t : List ℕ) where
+  pub temp_turned : i % nk ≡ 0 → temp nk i t ≡ add_column (sub_word (rot_word t)) (rcon_word (i / nk))
+  temp_turned h = rw (eq-eqb _ _ h)
 
-  pub next_turned : (u r : List ℕ) → i % nk ≡ 0 → u ≡ add_column (sub_word (rot_word t)) (rcon_word (i / nk)) → r ≡ add_column p u → r ≡ next_word nk w i
-  next_turned u r h hu = next_by u r (rw (eq-eqb _ _ h) hu)
+  pub temp_substituted : (i % nk ≡ 0 → ⊥) → 6 < nk → i % nk ≡ 4 → temp nk i t ≡ sub_word t
+  temp_substituted h k m = rw (ne_eqb _ _ h, lt-ltb _ _ k, eq-eqb _ _ m)
 
-  pub next_substituted : (u r : List ℕ) → (i % nk ≡ 0 → ⊥) → 6 < nk → i % nk ≡ 4 → u ≡ sub_word t → r ≡ add_column p u → r ≡ next_word nk w i
-  next_substituted u r h k m hu = next_by u r (rw (ne_eqb _ _ h, lt-ltb _ _ k, eq-eqb _ _ m) hu)
+  pub temp_short : (i % nk ≡ 0 → ⊥) → nk ≤ 6 → temp nk i t ≡ t
+  temp_short h k = rw (ne_eqb _ _ h, le-ltb _ _ k)
 
-  pub next_short : (r : List ℕ) → (i % nk ≡ 0 → ⊥) → nk ≤ 6 → r ≡ add_column p t → r ≡ next_word nk w i
-  next_short r h k = next_by t r (rw (ne_eqb _ _ h, le-ltb _ _ k))
+  pub temp_long : (i % nk ≡ 0 → ⊥) → 6 < nk → (i % nk ≡ 4 → ⊥) → temp nk i t ≡ t
+  temp_long h k m = rw (ne_eqb _ _ h, lt-ltb _ _ k, ne_eqb _ _ m)
 
-  pub next_long : (r : List ℕ) → (i % nk ≡ 0 → ⊥) → 6 < nk → (i % nk ≡ 4 → ⊥) → r ≡ add_column p t → r ≡ next_word nk w i
-  next_long r h k m = next_by t r (rw (ne_eqb _ _ h, lt-ltb _ _ k, ne_eqb _ _ m))
+-- p and t are the two words before it that the next is made of
+pub next_by : (nk : ℕ) (w : List ℕ) (i : ℕ) (p t u r : List ℕ) → p ≡ word w (i - nk) → t ≡ word w (i - 1) → u ≡ temp nk i t → r ≡ add_column p u
+    → r ≡ next_word nk w i
+unfolding next_word
+next_by nk w i p t u r hp ht hu hr = hr ∙ ap₂ add_column hp (hu ∙ ap (temp nk i) ht)
 
 -- the turned words take round constants 1 to 10
 pub quotient : (i nk : ℕ) → 1 ≤ nk → nk ≤ i → i < 11 * nk → (1 ≤ i / nk) × (i / nk ≤ 10)
 quotient i nk h k l = ((le-div_iff_mul-le h).1 (omega arith), le_of_suc-le-suc ((div-lt_iff_lt-mul h).1 l))
-
--- ---- four stores
-pub stored : (l : List ℕ) (k a b c d : ℕ) → k + 3 < length l
-    → take (k + 4) (set (set (set (set l k a) (k + 1) b) (k + 2) c) (k + 3) d) ≡ take k l ++ (a ∷ b ∷ c ∷ d ∷ [])
-stored l k a b c d h =
-    rw (add-one k, add-two k, add-three k)
-    (ap (take (k + 4)) (sets-eq (a ∷ b ∷ c ∷ d ∷ []) l k (omega arith))
-    ∙ take_at (take k l ++ (a ∷ b ∷ c ∷ d ∷ [])) (drop (k + 4) l) (k + 4)
-    (length-append (take k l) (a ∷ b ∷ c ∷ d ∷ []) ∙ ap (λ (x : ℕ). x + 4) (length-take-le k l (omega arith))))
 
 -- ---- a turn
 pub word_take : (w : List ℕ) (n j : ℕ) → 4 * j + 3 < n → word (take n w) j ≡ word w j

@@ -2,18 +2,21 @@
 -- Assumes nothing.
 use mathlib.Core.Path.{◌≡◌, refl, sym, ap, ap₂, ◌∙◌}
 use mathlib.Core.List.{List}
-use Prim.Native.Nat.{ℕ, zero, suc, ◌+◌, ◌-◌, ◌<◌}
+use Prim.Native.Nat.{ℕ, zero, suc, ◌+◌, ◌-◌, ◌<◌, ◌≤◌}
 use native.Mathlib.Nat.{not-suc-le-zero}
-use native.Mathlib.Numerals.{add-one, sub-one}
+use native.Mathlib.Omega.{arith}
+use native.Mathlib.Numerals.{sub-one}
 use Rattle.standards.specs.Fips197.{State, sub_bytes, inv_sub_bytes, shift_rows, inv_shift_rows, mix_columns, inv_mix_columns, add_round_key, rounds, cipher, inv_rounds, inv_cipher}
 
-one_more : (w : List ℕ) (i : ℕ) (s : State) → add_round_key w (i + 1) (mix_columns (shift_rows (sub_bytes (rounds w i s)))) ≡ rounds w (i + 1) s
+pub turn : (w : List ℕ) (i : ℕ) (s₀ s a d : State) → 1 ≤ i → s ≡ rounds w (i - 1) s₀ → a ≡ mix_columns (shift_rows (sub_bytes s)) → d ≡ add_round_key w i a
+    → d ≡ rounds w (i + 1 - 1) s₀
 unfolding rounds
-one_more w i s = rw (add-one i)
-
-pub turn : (w : List ℕ) (i : ℕ) (s₀ s a d : State) → s ≡ rounds w i s₀ → a ≡ mix_columns (shift_rows (sub_bytes s)) → d ≡ add_round_key w (i + 1) a
-    → d ≡ rounds w (i + 1) s₀
-turn w i s₀ s a d e p q = q ∙ ap (add_round_key w (i + 1)) (p ∙ ap (λ t. mix_columns (shift_rows (sub_bytes t))) e) ∙ one_more w i s₀
+turn w zero s₀ s a d h e p q = absurd (not-suc-le-zero h)
+turn w (suc i) s₀ s a d h e p q =
+    let before : suc i - 1 ≡ i = omega arith in
+    let after : suc i ≡ suc i + 1 - 1 = omega arith in
+    q ∙ ap (add_round_key w (suc i)) (p ∙ ap (λ t. mix_columns (shift_rows (sub_bytes t))) (e ∙ ap (λ (k : ℕ). rounds w k s₀) before))
+    ∙ ap (λ (k : ℕ). rounds w k s₀) after
 
 pub last : (w : List ℕ) (nr i : ℕ) (b s₀ s a d : State) → i ≡ nr - 1 → s₀ ≡ add_round_key w 0 b → s ≡ rounds w i s₀
     → a ≡ shift_rows (sub_bytes s) → d ≡ add_round_key w nr a → d ≡ cipher w nr b

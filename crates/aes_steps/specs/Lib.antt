@@ -1,1 +1,2 @@
 pub mod LookUp
+pub mod Matrix

@@ -2,46 +2,28 @@
 #![tactic(auto)]
 
 pub mod inverse; // inverse.rt: the inverse steps
+mod matrix; // matrix.rt: what MixColumns and its inverse share
 
 ghost use Rattle.std.specs.Prelude.{◌≡◌, ◌+◌, ◌*◌, ◌<◌, length};
-ghost use Rattle.standards.specs.Fips197.{columns, each_byte, sub_bytes, shift_rows, row, mix_column, mix_columns, word, add_column, add_state, round_key, add_round_key};
-ghost use Rattle.standards.specs.Strings.{◌⊕◌};
+ghost use Rattle.standards.specs.Fips197.{columns, each_byte, sub_bytes, shift_rows, row, mix_columns, word, add_column, add_state, round_key, add_round_key};
 ghost use Rattle.aes_steps.specs.LookUp.{look_up};
 ghost use Rattle.field.specs.Tables.{sbox_table};
 
-// The table's entry at b.
-fn look_up(table: &[u8; 256], b: u8) -> u8
-    requires { length table.now ≡ 256 }
-    ensures { result ≡ look_up table.now b }
-{
-    table[b as usize]
-}
+use matrix::{Matrix, mixed};
+use std::array;
 
 // Each byte of a column, looked up in the table.
+#[tactic(auto, unfolding(crate::specs::LookUp::look_up))]
 pub fn substitute(table: &[u8; 256], a: [u8; 4]) -> [u8; 4]
-    requires { length table.now ≡ 256 }
     ensures { result ≡ each_byte (look_up table.now) a }
 {
-    let p = a[0];
-    let q = a[1];
-    let r = a[2];
-    let s = a[3];
-    [
-        look_up(table, p),
-        look_up(table, q),
-        look_up(table, r),
-        look_up(table, s),
-    ]
+    a.map(|b| table[b as usize])
 }
 
 pub fn substitute_all(table: &[u8; 256], s: [[u8; 4]; 4]) -> [[u8; 4]; 4]
-    requires { length table.now ≡ 256 }
     ensures { result ≡ columns (each_byte (look_up table.now)) s }
 {
-    let a = s[0];
-    let b = s[1];
-    let c = s[2];
-    let d = s[3];
+    let [a, b, c, d] = s;
     [
         substitute(table, a),
         substitute(table, b),
@@ -61,10 +43,7 @@ pub fn sub_bytes(sbox: &[u8; 256], s: [[u8; 4]; 4]) -> [[u8; 4]; 4]
 pub fn shift_rows(s: [[u8; 4]; 4]) -> [[u8; 4]; 4]
     ensures { result ≡ shift_rows s }
 {
-    let a = s[0];
-    let b = s[1];
-    let c = s[2];
-    let d = s[3];
+    let [a, b, c, d] = s;
     [
         [a[0], b[1], c[2], d[3]],
         [b[0], c[1], d[2], a[3]],
@@ -73,36 +52,20 @@ pub fn shift_rows(s: [[u8; 4]; 4]) -> [[u8; 4]; 4]
     ]
 }
 
-// The row 02 03 01 01 on four bytes.
-fn mix(a: u8, b: u8, c: u8, d: u8) -> u8
-    ensures { result ≡ row 0x02 0x03 0x01 0x01 a b c d }
-{
-    field::double(a) ^ field::double(b) ^ b ^ c ^ d
-}
+struct MixColumns;
 
-fn mix_column(a: [u8; 4]) -> [u8; 4]
-    ensures { result ≡ mix_column a }
-{
-    let p = a[0];
-    let q = a[1];
-    let r = a[2];
-    let s = a[3];
-    let first = mix(p, q, r, s);
-    let second = mix(q, r, s, p);
-    let third = mix(r, s, p, q);
-    let fourth = mix(s, p, q, r);
-    [first, second, third, fourth]
+impl Matrix for MixColumns {
+    ghost first_row = { row 0x02 0x03 0x01 0x01 };
+
+    fn first_row(a: u8, b: u8, c: u8, d: u8) -> u8 {
+        field::double(a) ^ field::double(b) ^ b ^ c ^ d
+    }
 }
 
 pub fn mix_columns(s: [[u8; 4]; 4]) -> [[u8; 4]; 4]
     ensures { result ≡ mix_columns s }
 {
-    [
-        mix_column(s[0]),
-        mix_column(s[1]),
-        mix_column(s[2]),
-        mix_column(s[3]),
-    ]
+    mixed::<MixColumns>(s)
 }
 
 // Word j of the key schedule.
@@ -110,47 +73,23 @@ pub fn key_word(w: &[u8], j: usize) -> [u8; 4]
     requires { 4 * j + 3 < length w.now }
     ensures { result ≡ word w.now j }
 {
-    let k = 4 * j;
-    [w[k], w[k + 1], w[k + 2], w[k + 3]]
-}
-
-// The sum of two bytes (4.1).
-fn add(a: u8, b: u8) -> u8
-    ensures { result ≡ a ⊕ b }
-{
-    a ^ b
+    array::from_fn(|r| w[4 * j + r])
 }
 
 pub fn add_column(a: [u8; 4], k: [u8; 4]) -> [u8; 4]
     ensures { result ≡ add_column a k }
 {
-    let p = a[0];
-    let q = a[1];
-    let r = a[2];
-    let s = a[3];
-    let t = k[0];
-    let u = k[1];
-    let v = k[2];
-    let x = k[3];
-    [add(p, t), add(q, u), add(r, v), add(s, x)]
+    [a[0] ^ k[0], a[1] ^ k[1], a[2] ^ k[2], a[3] ^ k[3]]
 }
 
 fn add_state(s: [[u8; 4]; 4], k: [[u8; 4]; 4]) -> [[u8; 4]; 4]
     ensures { result ≡ add_state s k }
 {
-    let a = s[0];
-    let b = s[1];
-    let c = s[2];
-    let d = s[3];
-    let p = k[0];
-    let q = k[1];
-    let r = k[2];
-    let t = k[3];
     [
-        add_column(a, p),
-        add_column(b, q),
-        add_column(c, r),
-        add_column(d, t),
+        add_column(s[0], k[0]),
+        add_column(s[1], k[1]),
+        add_column(s[2], k[2]),
+        add_column(s[3], k[3]),
     ]
 }
 

@@ -180,7 +180,7 @@ pub fn copy_at(s: &mut [u8], at: usize, from: &[u8])
     requires { at + length from.now ≤ length s.old }
     ensures { s.new ≡ take at s.old ++ (from.now ++ drop (at + length from.now) s.old) }
 {
-    copy(from, &mut s[at..]);
+    s[at..at + from.len()].copy_from_slice(from);
 }
 
 // Makes every byte of s zero.

@@ -1,6 +1,7 @@
--- `aes::rounds::cipher` meets its contract: after i turns of the loop the state has been through rounds 1 to i.
+-- `aes::rounds::cipher` meets its contract: before round i the state has been through rounds 1 to i - 1.
 -- Assumes nothing.
 use mathlib.Core.Path.{refl}
+use Prim.Native.Nat.{◌-◌}
 use native.Mathlib.Omega.{arith}
 use Rattle.standards.specs.Fips197.{rounds}
 use Rattle.aes.proofs.Turns.{turn, last}
@@ -8,15 +9,15 @@ use Rattle.aes.proofs.rounds.cipher.Goals as goal
 
 pub loop-i-init : goal.loop-i-init
 unfolding rounds
-loop-i-init c = (omega arith, refl)
+loop-i-init c = refl
 
 pub loop-i-preserved : goal.loop-i-preserved
 loop-i-preserved c =
     let l = c.loop-i in
-    (omega arith, turn _ l.i _ _ _ _ l.invariant.1 c.round.ensures c.add_round_key-s-in-loop-i.ensures)
+    turn _ l.i _ _ _ _ l.auto.i l.invariant c.round.ensures c.add_round_key-s-in-loop-i.ensures
 
 pub returns : goal.returns
 returns c =
     let l = c.loop-i in
-    last _ c.args.rounds _ _ _ _ _ _ (omega arith) c.add_round_key-s.ensures l.invariant.1
+    last _ c.args.rounds (l.i - 1) _ _ _ _ _ (omega arith) c.add_round_key-s.ensures l.invariant
     c.round-2.ensures c.add_round_key.ensures

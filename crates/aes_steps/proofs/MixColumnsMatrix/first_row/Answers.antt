@@ -1,8 +1,8 @@
--- `aes_steps::mix` meets its contract: the row of the matrix by doublings.
+-- `MixColumns::first_row` meets its contract: the row of the matrix by doublings.
 -- Assumes nothing.
 use Rattle.standards.specs.Strings.{◌⊕◌}
 use Rattle.aes_steps.proofs.MixLaws.{mix_row}
-use Rattle.aes_steps.proofs.mix.Goals as goal
+use Rattle.aes_steps.proofs.MixColumnsMatrix.first_row.Goals as goal
 
 pub returns : goal.returns
 unfolding ◌⊕◌

@@ -1,8 +1,8 @@
--- `aes_steps::inverse::inv_mix` meets its contract: the row of the matrix by repeated doublings.
+-- `InvMixColumns::first_row` meets its contract: the row of the matrix by repeated doublings.
 -- Assumes nothing.
 use Rattle.standards.specs.Strings.{◌⊕◌}
 use Rattle.aes_steps.proofs.MixLaws.{inv_mix_row}
-use Rattle.aes_steps.proofs.inverse.inv_mix.Goals as goal
+use Rattle.aes_steps.proofs.inverse.InvMixColumnsMatrix.first_row.Goals as goal
 
 pub returns : goal.returns
 unfolding ◌⊕◌
