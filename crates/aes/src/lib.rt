@@ -46,11 +46,9 @@ pub fn expand_key(key: &[u8]) -> RoundKeys
     requires { KeyLength (length key.now) }
     ensures { result ≡ round_keys_of key.now }
 {
-    let sbox = field::sbox();
-    let rcon = field::round_constants();
     let words = 4 * (rounds_for(key.len()) + 1);
     let mut w = [0u8; ROUND_KEY_BYTES];
-    key::expand(sbox, rcon, key, key.len() / 4, words, &mut w[..4 * words]);
+    key::expand(key, key.len() / 4, words, &mut w[..4 * words]);
     w
 }
 

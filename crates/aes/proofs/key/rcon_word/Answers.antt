@@ -1,4 +1,4 @@
--- `aes::key::rcon_word` meets its contract: the lent table's entry is the round's constant.
+-- `aes::key::rcon_word` meets its contract: the table's entry is the round's constant.
 -- Assumes nothing.
 use mathlib.Core.Path.{ap, ◌∙◌}
 use mathlib.Core.List.{[], ◌∷◌}
@@ -11,4 +11,4 @@ use Rattle.aes.proofs.key.rcon_word.Goals as goal
 pub returns : goal.returns
 returns c =
     let round = c.args.round in
-    ap (λ x. x ∷ 0 ∷ 0 ∷ 0 ∷ []) (ap (λ t. get_or t (round - 1) 0) c.requires.0 ∙ rcon_entry (round - 1) (omega arith))
+    ap (λ x. x ∷ 0 ∷ 0 ∷ 0 ∷ []) (ap (λ t. get_or t (round - 1) 0) c.round_constants-rcon.ensures ∙ rcon_entry (round - 1) (omega arith))

@@ -1,4 +1,4 @@
--- `aes::key::sub_word` meets its contract: the lent table's entries are the S-box's values.
+-- `aes::key::sub_word` meets its contract: the table's entries are the S-box's values.
 -- Assumes nothing.
 use mathlib.Core.Path.{◌∙◌}
 use Rattle.standards.specs.Fips197.{sbox}
@@ -10,4 +10,4 @@ use Rattle.aes.proofs.key.sub_word.Goals as goal
 pub returns : goal.returns
 returns c =
     let a = c.args.a in
-    c.substitute.ensures ∙ each_byte_same _ sbox (sbox_at c.requires) a (owned_bytes 4 a _ c.well_formed.1.0)
+    c.substitute.ensures ∙ each_byte_same _ sbox (sbox_at c.sbox.ensures) a (owned_bytes 4 a _ c.well_formed.0)
