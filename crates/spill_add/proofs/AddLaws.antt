@@ -1,10 +1,10 @@
--- The numbers of adding against the tests that the code makes, what is known where there is none, and adding as a whole. Assumes nothing.
+-- What is known where adding is not refused, and adding as a whole. Assumes nothing.
 use mathlib.Core.Path.{◌≡◌, refl, sym, ap, ap₂, subst, subst⁻¹, ◌∙◌}
 use mathlib.Core.Bool.{Bool, true, false, cond, ◌||◌}
 use mathlib.Core.List.{List, []}
 use Prim.Native.Nat.{ℕ, zero, suc, ◌<◌, ◌≤◌}
 use native.Mathlib.Omega.{arith}
-use borrow.Author.Tests.{ltb-false, eqb-true, eqb-false, lt-ltb, le-ltb, eq-eqb, ne_eqb}
+use borrow.Author.Tests.{ltb-false, eqb-true, eqb-false}
 use lib.Dec.{eqb, ltb, lit<, lit≤}
 use lib.ListN.{length, take}
 use Rattle.standards.specs.Strings.{Bytes, zeros}
@@ -12,7 +12,7 @@ use Rattle.block.specs.Words.{le_bytes}
 use Rattle.block.proofs.StringLaws.{bytes_take}
 use Rattle.block.proofs.WordLaws.{le_bytes_length}
 use Rattle.ocb_numbers.specs.Numbers.{refusal}
-use Rattle.ocb_numbers.proofs.RuleLaws.{first-at, first-none, none_applies}
+use Rattle.ocb_numbers.proofs.RuleLaws.{none_applies}
 use Rattle.ocb_numbers.proofs.Refusals.{in_range}
 use Rattle.ocb_variables.specs.declared.State.{State}
 use Rattle.ocb_variables.specs.Held.{held}
@@ -21,7 +21,7 @@ use Rattle.ocb.proofs.AnyState.{asked}
 use Rattle.spill_form.specs.File.{most_rows, most_bytes, count, file_number, ◌or_else◌}
 use Rattle.spill_form.specs.Adding.{Adding, new_length, nonce_in, add_rules, add_number, of_twelve, sealed_for, unless_add, added, adding}
 use Rattle.spill_form.specs.declared.Form.{Form}
-use Rattle.spill_form.proofs.FileLaws.{or-false, or_left, or_right, else-first, within}
+use Rattle.spill_form.proofs.FileLaws.{or-false, else-first, within}
 use Rattle.spill_lay.specs.Laying.{Laying}
 use Rattle.std.specs.Prelude.{Result, Err}
 use Rattle.spill_form.specs.Numbers.{number_of}
@@ -30,40 +30,9 @@ use Rattle.spill_form.proofs.Numbers.{numbered_from_1}
 use Rattle.spill_add.specs.Adds.{Adds, refused, addition_of}
 use Rattle.spill_add.specs.declared.Addition.{Addition}
 
--- ---- the numbers 17, 15 and 16, for a file S in a buffer of `room` bytes and a text of k bytes
+-- ---- where none of 17, 15 and 16 is given, for a file S in a buffer of `room` bytes and a text of k bytes
 
 module _ (f : Form) (S N : List ℕ) (tenant k room : ℕ) where
-  pub number_17 : tenant ≡ 0 → 17 ≡ add_number f S N tenant k room
-  unfolding add_number
-  number_17 h = sym (first-at 0 (add_rules f S N tenant k room) tt (eq-eqb _ _ h))
-
-  module _ (t : tenant ≡ 0 → ⊥) where
-    pub number_15 : nonce_in f S N ≡ true → 15 ≡ add_number f S N tenant k room
-    unfolding add_number
-    number_15 h = sym (first-at 1 (add_rules f S N tenant k room) (ne_eqb _ _ t, tt) h)
-
-    module _ (fresh : nonce_in f S N ≡ false) where
-      number_16 : eqb (count S) most_rows || ltb most_bytes (new_length f S k) || ltb room (new_length f S k) ≡ true → 16 ≡ add_number f S N tenant k room
-      unfolding add_number
-      number_16 h = sym (first-at 2 (add_rules f S N tenant k room) (ne_eqb _ _ t, (fresh, tt)) h)
-
-      pub full : count S ≡ most_rows → 16 ≡ add_number f S N tenant k room
-      full h = number_16 (or_left _ _ (or_left _ _ (eq-eqb _ _ h)))
-
-      pub too_long : most_bytes < new_length f S k → 16 ≡ add_number f S N tenant k room
-      too_long h = number_16 (or_left _ _ (or_right (eqb (count S) most_rows) _ (lt-ltb _ _ h)))
-
-      pub no_room : room < new_length f S k → 16 ≡ add_number f S N tenant k room
-      no_room h = number_16 (or_right (eqb (count S) most_rows || ltb most_bytes (new_length f S k)) _ (lt-ltb _ _ h))
-
-      pub number_0 : (count S ≡ most_rows → ⊥) → new_length f S k ≤ most_bytes → new_length f S k ≤ room → 0 ≡ add_number f S N tenant k room
-      unfolding add_number
-      number_0 c m r =
-          let a = ne_eqb _ _ c in
-          let b = le-ltb _ _ m in
-          let d = le-ltb _ _ r in
-          sym (first-none (add_rules f S N tenant k room) (ne_eqb _ _ t, (fresh, (simp (a, b, d), tt))))
-
   pub record Room : Type 0 where
     pub tenant_set : tenant ≡ 0 → ⊥
     pub fresh : nonce_in f S N ≡ false
@@ -124,7 +93,7 @@ module _ (s : State) (N : List ℕ) (tenant : ℕ) (P : List ℕ) where
 
 -- ---- adding as a whole
 
-pub not_added : (n : ℕ) {x : ℕ} (B : List ℕ) (file : ℕ) (done : Adding) → x ≡ n → (x ≡ 0 → ⊥)
+not_added : (n : ℕ) {x : ℕ} (B : List ℕ) (file : ℕ) (done : Adding) → x ≡ n → (x ≡ 0 → ⊥)
     → Adds (unless_add n B file done) (record { number = x; calls = 0; file = file }) B
 not_added zero B file done e h = absurd (h e)
 not_added (suc n) B file done e h = record { number = e; calls = refl; file = refl; buffer_left = refl }

@@ -20,10 +20,7 @@ pub or-false : (a b : Bool) → a || b ≡ false → (a ≡ false) × (b ≡ fal
 or-false true b e = absurd (let z : ◌≡◌ {A = ℕ} 0 1 = cc in omega arith)
 or-false false b e = (refl, e)
 
-pub or_left : (a b : Bool) → a ≡ true → a || b ≡ true
-or_left a b e = rw e
-
-pub or_right : (a b : Bool) → b ≡ true → a || b ≡ true
+or_right : (a b : Bool) → b ≡ true → a || b ≡ true
 or_right true b e = refl
 or_right false b e = e
 
@@ -157,11 +154,7 @@ accepts f S a =
     sym (number_0 f S a.table (all-below (flawed f S) (count S) (λ i h. unflawed f S i (a.rows i h))) (omega (arith, a.ended)))
 
 module _ (f : Form) (B : List ℕ) (file : ℕ) where
-  pub too_long : ltb (length B) file || ltb most_bytes file ≡ true → 10 ≡ file_number f B file
-  unfolding file_number
-  too_long e = sym (first-at 0 (file_rules f B file) tt e)
-
-  pub fits : file ≤ length B → file ≤ most_bytes → content_number f (take file B) ≡ file_number f B file
+  fits : file ≤ length B → file ≤ most_bytes → content_number f (take file B) ≡ file_number f B file
   unfolding file_number content_number
   fits h k = sym (simp (le-ltb (length B) file h, le-ltb most_bytes file k))
 

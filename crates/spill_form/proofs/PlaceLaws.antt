@@ -2,7 +2,7 @@
 use mathlib.Core.Path.{◌≡◌, refl, sym, ap, ap₂, ◌∙◌}
 use mathlib.Core.List.{List, ◌++◌}
 use Prim.Native.Nat.{ℕ, ◌+◌, ◌*◌, ◌^◌, ◌<◌, ◌≤◌}
-use native.Mathlib.Nat.{add-zero, mul-suc, mul-le-mul_left, mul-le-mul_right}
+use native.Mathlib.Nat.{add-zero, mul-suc, mul-le-mul_left}
 use native.Mathlib.Numerals.{add-one}
 use native.Mathlib.Omega.{arith}
 use lib.Dec.{lit≤}
@@ -12,7 +12,7 @@ use Rattle.standards.specs.Strings.{Bytes}
 use Rattle.block.specs.Words.{le, le_bytes}
 use Rattle.block.proofs.StringLaws.{bytes_take, bytes_drop}
 use Rattle.block.proofs.WordLaws.{le_le_bytes, le_bytes_le}
-use Rattle.spill_form.specs.File.{most_bytes, bytes_at, word_at, row_size, row_at}
+use Rattle.spill_form.specs.File.{bytes_at, word_at, row_size, row_at}
 use Rattle.spill_form.specs.declared.Form.{Form}
 
 -- ---- where rows start
@@ -31,10 +31,6 @@ row_within f i n h = omega (arith, row_next f i, row_mono f (i + 1) n (omega ari
 pub row_least : (f : Form) (i : ℕ) → 4 ≤ row_at f i
 unfolding row_at
 row_least f i = omega arith
-
--- the product in a row's place
-pub row_product : (r i : ℕ) → r ≤ 40 → i ≤ most_bytes → r * i ≤ 2621440
-row_product r i hr hi = omega (arith, mul-le-mul_right i hr, mul-le-mul_left 40 hi)
 
 -- ---- the bytes from a place on
 

@@ -1,30 +1,26 @@
--- The numbers of reading against the tests that the code makes, and what the steps of reading leave. Assumes nothing.
+-- What is known of a row that is read, and what reading leaves. Assumes nothing.
 use mathlib.Core.Path.{◌≡◌, refl, sym, ap, ap₂, subst, subst⁻¹, subst₂, ◌∙◌}
 use mathlib.Core.Bool.{Bool, cond, not, ◌||◌}
-use mathlib.Core.List.{List, [], ◌++◌, append-nil}
-use Prim.Native.Nat.{ℕ, zero, suc, ◌+◌, ◌-◌, ◌<◌, ◌≤◌}
-use native.Mathlib.Nat.{zero-add}
+use mathlib.Core.List.{List, ◌++◌}
+use Prim.Native.Nat.{ℕ, zero, suc, ◌+◌, ◌<◌, ◌≤◌}
 use native.Mathlib.Omega.{arith}
 use borrow.Author.Tests.{leb-false, ltb-false, eqb-true, not-false, le-ltb, lt-leb, eq-eqb, ne_eqb}
 use lib.Dec.{lit<, lit≤}
-use lib.ListN.{length, take, drop, drop_of_length-le}
-use lib.Seq.{take_at, drop_at}
-use Rattle.standards.specs.Strings.{zeros}
+use lib.ListN.{length, take}
 use Rattle.standards.specs.Rfc7253.{Plaintext, VALID, INVALID, OCB-DECRYPT}
 use Rattle.ocb_numbers.specs.Numbers.{refusal}
 use Rattle.ocb_numbers.proofs.RuleLaws.{first-none, none_applies}
 use Rattle.ocb_numbers.proofs.Refusals.{refusal_most}
 use Rattle.ocb_variables.specs.declared.State.{State}
 use Rattle.ocb_variables.specs.Held.{held}
-use Rattle.ocb.specs.Answers.{Outcome, open_refused, unless, verdict, decrypted, opened, Leaves}
-use Rattle.ocb.specs.declared.Answer.{Answer}
+use Rattle.ocb.specs.Answers.{open_refused, unless, verdict, decrypted, opened}
 use Rattle.ocb.proofs.AnyState.{asked}
 use Rattle.spill_form.specs.File.{bytes_at, row_size, least_body, count, row_at, tenant_of, place_of, length_of, file_number, ◌or_else◌}
 use Rattle.spill_form.specs.Accepted.{Accepted}
 use Rattle.spill_form.specs.Entries.{text_length, tag_of, entry}
 use Rattle.spill_form.specs.Reading.{Reading, row_rules, row_number, read_refused, unless_read, at_front, by_open, opened_row, reading}
 use Rattle.spill_form.specs.declared.Form.{Form}
-use Rattle.spill_form.proofs.PlaceLaws.{row_within, bytes_at_length}
+use Rattle.spill_form.proofs.PlaceLaws.{row_within}
 use Rattle.spill_form.proofs.FileLaws.{else-first}
 use Rattle.spill_form.proofs.BuildLaws.{Proper}
 use Rattle.spill_form.proofs.BuiltLaws.{entry_proper, entry_text_size}
@@ -72,7 +68,7 @@ module _ (f : Form) (S : List ℕ) (i : ℕ) (small : f.tag_in_row ≤ 16) (a : 
         body_end = s.end;
       }
 
-  pub row_asked : (s : State)
+  row_asked : (s : State)
       → asked s (entry f S i).nonce (entry f S i).ad (entry f S i).text (entry f S i).tag
       ≡ refusal s.values.m s.values.rounds 12 4 (text_length f S i) 16
   row_asked s =
@@ -106,56 +102,6 @@ module _ (s : State) (N A C T : List ℕ) (n : ℕ) (out : List ℕ) where
           ap₂ (λ (x y : Bool). cond (x || y) (at_front n (open_refused C T (suc j)) out) (read_refused out (suc j))) (ne_eqb (suc j) 0 h)
           (ne_eqb (suc j) 7 (λ z. omega arith))
 
--- ---- the tag, in two copies
-
-pub tag_made : (S : List ℕ) (at end w : ℕ) {T₁ T₂ : List ℕ} → w ≤ 16 → at + (24 + w) ≤ length S → end + (16 - w) ≤ length S
-    → T₁ ≡ take 0 (zeros 16) ++ (take (at + 24 + w - (at + 24)) (drop (at + 24) S) ++ drop (0 + length (take (at + 24 + w - (at + 24)) (drop (at + 24) S))) (zeros 16))
-    → T₂ ≡ take w T₁ ++ (take (end + (16 - w) - end) (drop end S) ++ drop (w + length (take (end + (16 - w) - end) (drop end S))) T₁)
-    → length T₁ ≡ 16
-    → T₂ ≡ bytes_at S (at + 24) w ++ bytes_at S end (16 - w)
-tag_made S at end w {T₁} {T₂} small hr hb e₁ e₂ long =
-    let R : List ℕ = bytes_at S (at + 24) w in
-    let Z : List ℕ = bytes_at S end (16 - w) in
-    let kr : at + 24 + w - (at + 24) ≡ w = omega arith in
-    let kb : end + (16 - w) - end ≡ 16 - w = omega arith in
-    let lr : length R ≡ w = bytes_at_length S (at + 24) w (omega arith) in
-    let lb : length Z ≡ 16 - w = bytes_at_length S end (16 - w) hb in
-    let one : T₁ ≡ R ++ drop w (zeros 16) =
-    e₁ ∙ ap (λ (k : ℕ). take k (drop (at + 24) S) ++ drop (0 + length (take k (drop (at + 24) S))) (zeros 16)) kr
-    ∙ ap (λ (k : ℕ). R ++ drop k (zeros 16)) (zero-add (length R) ∙ lr) in
-    let front : take w T₁ ≡ R = ap (take w) one ∙ take_at R (drop w (zeros 16)) w lr in
-    let none : drop (w + length Z) T₁ ≡ [] = drop_of_length-le T₁ {i = w + length Z} (omega arith) in
-    e₂ ∙ ap (λ (k : ℕ). take w T₁ ++ (take k (drop end S) ++ drop (w + length (take k (drop end S))) T₁)) kb
-    ∙ ap₂ (λ (x y : List ℕ). x ++ (Z ++ y)) front none
-    ∙ ap (λ (x : List ℕ). R ++ x) (append-nil Z)
-
--- ---- a ciphertext copied to the front of the output and opened there
-
-pub opened_front : (s : State) (S : List ℕ) (at place n : ℕ) (T out : List ℕ) {out₁ text T' : List ℕ} {r : Answer}
-    → place + n ≤ length S
-    → out₁ ≡ take 0 out ++ (take (place + n - place) (drop place S) ++ drop (0 + length (take (place + n - place) (drop place S))) out)
-    → Leaves (opened s (take (at + 12 - at) (drop at S)) (take (at + 16 - (at + 12)) (drop (at + 12) S)) (take n out₁) T) r text T'
-    → Reads (at_front n (opened s (bytes_at S at 12) (bytes_at S (at + 12) 4) (bytes_at S place n) T) out)
-    (record { number = r.number; calls = r.calls; written = n }) (text ++ drop n out₁)
-opened_front s S at place n T out {out₁} {text} {T'} {r} h copied L =
-    let C : List ℕ = bytes_at S place n in
-    let long : length C ≡ n = bytes_at_length S place n h in
-    let e₀ : place + n - place ≡ n = omega arith in
-    let e₁ : at + 12 - at ≡ 12 = omega arith in
-    let e₂ : at + 16 - (at + 12) ≡ 4 = omega arith in
-    let front : out₁ ≡ C ++ drop n out =
-    copied ∙ ap (λ (k : ℕ). take k (drop place S) ++ drop (0 + length (take k (drop place S))) out) e₀ ∙ ap (λ (k : ℕ). C ++ drop k out) (zero-add (length C) ∙ long) in
-    let text_is : take n out₁ ≡ C = ap (take n) front ∙ take_at C (drop n out) n long in
-    let behind : drop n out₁ ≡ drop n out = ap (drop n) front ∙ drop_at C (drop n out) n long in
-    let same : opened s (take (at + 12 - at) (drop at S)) (take (at + 16 - (at + 12)) (drop (at + 12) S)) (take n out₁) T
-    ≡ opened s (bytes_at S at 12) (bytes_at S (at + 12) 4) C T = cc in
-    record {
-      number = L.number ∙ ap (λ (o : Outcome). o.number) same;
-      calls = L.calls ∙ ap (λ (o : Outcome). o.calls) same;
-      written = refl;
-      out_left = ap₂ (λ (x y : List ℕ). x ++ y) (L.text_left ∙ ap (λ (o : Outcome). o.text) same) behind;
-    }
-
 -- ---- a row, from its parts as the code finds them
 
 module _ (f : Form) (S : List ℕ) (i : ℕ) (small : f.tag_in_row ≤ 16) (a : Accepted f S) (h : i < count S)
@@ -186,7 +132,7 @@ module _ (f : Form) (S : List ℕ) (i : ℕ) (small : f.tag_in_row ≤ 16) (a : 
 
 -- ---- reading as a whole
 
-pub not_read : (n : ℕ) {x : ℕ} (out : List ℕ) (done : Reading) → x ≡ n → (x ≡ 0 → ⊥)
+not_read : (n : ℕ) {x : ℕ} (out : List ℕ) (done : Reading) → x ≡ n → (x ≡ 0 → ⊥)
     → Reads (unless_read n out done) (record { number = x; calls = 0; written = 0 }) out
 not_read zero out done e h = absurd (h e)
 not_read (suc n) out done e h = record { number = e; calls = refl; written = refl; out_left = refl }
