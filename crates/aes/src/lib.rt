@@ -14,7 +14,7 @@ ghost use Rattle.aes.specs.Schedule.{round_keys_of};
 use blocks::{from_block, to_block};
 use sizes::{Block, ROUND_KEY_BYTES, RoundKeys};
 
-// ---- What the cipher works with: the crates above do not look into it
+// ---- What the cipher works with: the crates above do not look into it. Each direction has a function of its own, since each promises its own tables.
 
 pub type EncipherTables = [u8; 256];
 

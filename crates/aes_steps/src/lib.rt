@@ -32,6 +32,7 @@ pub fn substitute_all(table: &[u8; 256], s: [[u8; 4]; 4]) -> [[u8; 4]; 4]
     ]
 }
 
+// What it does is substitute_all, as inv_sub_bytes; each promises its own table's values.
 pub fn sub_bytes(sbox: &[u8; 256], s: [[u8; 4]; 4]) -> [[u8; 4]; 4]
     requires { sbox.now ≡ sbox_table }
     ensures { result ≡ sub_bytes s }
@@ -39,7 +40,7 @@ pub fn sub_bytes(sbox: &[u8; 256], s: [[u8; 4]; 4]) -> [[u8; 4]; 4]
     substitute_all(sbox, s)
 }
 
-// Row r goes r places to the left.
+// Row r goes r places to the left. A literal, as its inverse is one: with places computed they would be one function and no plainer.
 pub fn shift_rows(s: [[u8; 4]; 4]) -> [[u8; 4]; 4]
     ensures { result ≡ shift_rows s }
 {

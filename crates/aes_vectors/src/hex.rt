@@ -3,7 +3,7 @@ ghost use Rattle.std.specs.Prelude.{◌<◌};
 
 use sizes::Block;
 
-// The value of a digit, 0 to 9 or a to f: a letter's low four bits are nine less.
+// The value of a digit, 0 to 9 or a to f: a letter's low four bits are nine less. `char::to_digit` gives a number or none, which is no plainer.
 fn digit(c: u8) -> u8
     ensures { result < 16 }
 {

@@ -37,6 +37,7 @@ fn expand(key: Key) -> Expanded
     }
 }
 
+// One function each way: with the direction as a parameter, plaintext and ciphertext would have to change places too.
 fn enciphers(c: Case) -> bool {
     let expanded = expand(c.key);
     let made = Cipher::new(&expanded.keys, expanded.rounds).encipher(c.plain);

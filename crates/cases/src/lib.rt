@@ -108,7 +108,7 @@ pub fn answer(case: &[u8], text: &mut [u8], tag: &mut [u8]) -> Result<Reply, NoR
 }
 
 // Writes what the test program writes for a case at the front of out, and gives its length. An out of fewer than 33,000 bytes, which may be too few,
-// is left alone.
+// is left alone, and the length is then 0 and not none: its clauses `responds` and `prefix` promise a length.
 pub fn respond(case: &[u8], out: &mut [u8]) -> usize
     ensures responds { Responds (decode case.now) out.old result out.new }
     ensures prefix { IsPrefixLen result out.new }

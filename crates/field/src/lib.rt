@@ -11,6 +11,7 @@ ghost use Rattle.field.specs.Tables.{sbox_table, inv_sbox_table, rcon_table};
 // Rcon[1] to Rcon[10].
 static RCON: [u8; 10] = [0x01, 0x02, 0x04, 0x08, 0x10, 0x20, 0x40, 0x80, 0x1b, 0x36];
 
+// Each table has a function of its own, since each promises another rule.
 pub fn sbox() -> &'static [u8; 256]
     ensures { result.now ≡ sbox_table }
 {

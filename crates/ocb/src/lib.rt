@@ -6,12 +6,12 @@ ghost use Rattle.std.specs.Prelude.{◌≡◌, length};
 ghost use Rattle.ocb_numbers.specs.Numbers.{number_of, InRange};
 ghost use Rattle.ocb_variables.specs.Held.{key_of};
 ghost use Rattle.ocb.specs.Answers.{zero_state, set_up, sealed, opened, Leaves};
-ghost use Rattle.ocb.specs.Inner.{Encrypted, Decrypted};
+ghost use Rattle.ocb.specs.Inner.{Through, Encrypted, Decrypted};
 
 use ocb_numbers::Refusal;
-use ocb_steps::way::{Opening, Sealing};
+use ocb_steps::way::{Opening, Sealing, Way};
 use ocb_variables::{KeyValues, LentKey, State};
-use sizes::{ROUND_KEY_BYTES, TABLE_BYTES};
+use sizes::{Block, ROUND_KEY_BYTES, TABLE_BYTES};
 
 // What set_up gives: its number, and the state to seal and open with. A number and not a Result, as C and the theorems of Demands.antt have it.
 #[derive(Clone, Copy)]
@@ -70,14 +70,22 @@ pub fn set_up(key: &[u8], m: usize) -> SetUp
     SetUp { number: 0, state }
 }
 
+// Takes a text whose sizes are in range through the mode, either way, for a tag of so many bytes, and gives all sixteen bytes of its tag.
+fn through<W: Way>(k: &LentKey<'_>, nonce: &[u8], ad: &[u8], text: &mut [u8], tag: usize) -> Block
+    requires { InRange k.now.m (length nonce.now) (length ad.now) (length text.old) tag }
+    ensures { Through W.opens (key_of k.now) nonce.now ad.now tag text.old text.new result }
+{
+    let offset = ocb_variables::initial_offset(&k.cipher, nonce, tag);
+    let run = ocb_walk::text::text::<W>(k, offset, text);
+    ocb_walk::tag::compute_tag(k, run, ad)
+}
+
 // Seals a text whose sizes are in range, under a lent key.
 fn encrypt(k: &LentKey<'_>, nonce: &[u8], ad: &[u8], text: &mut [u8], tag: &mut [u8])
     requires { InRange k.now.m (length nonce.now) (length ad.now) (length text.old) (length tag.old) }
     ensures { Encrypted (key_of k.now) nonce.now ad.now text.old tag.old text.new tag.new }
 {
-    let offset = ocb_variables::initial_offset(&k.cipher, nonce, tag.len());
-    let run = ocb_walk::text::text::<Sealing>(k, offset, text);
-    let computed = ocb_walk::tag::compute_tag(k, run, ad);
+    let computed = through::<Sealing>(k, nonce, ad, text, tag.len());
     ocb_walk::tag::write_tag(computed, tag);
 }
 
@@ -86,9 +94,7 @@ fn decrypt(k: &LentKey<'_>, nonce: &[u8], ad: &[u8], text: &mut [u8], tag: &[u8]
     requires { InRange k.now.m (length nonce.now) (length ad.now) (length text.old) (length tag.now) }
     ensures { Decrypted (key_of k.now) nonce.now ad.now text.old tag.now text.new result }
 {
-    let offset = ocb_variables::initial_offset(&k.cipher, nonce, tag.len());
-    let run = ocb_walk::text::text::<Opening>(k, offset, text);
-    let computed = ocb_walk::tag::compute_tag(k, run, ad);
+    let computed = through::<Opening>(k, nonce, ad, text, tag.len());
     ocb_walk::tag::tags_equal(computed, tag)
 }
 
@@ -107,7 +113,8 @@ pub fn seal(s: State, nonce: &[u8], ad: &[u8], text: &mut [u8], tag: &mut [u8]) 
     Answer { number: 0, calls }
 }
 
-// Opens the text where it lies. If the tag is not the text's, every byte of the text is zero; a refusal of the sizes changes nothing.
+// Opens the text where it lies. If the tag is not the text's, every byte of the text is zero; a refusal of the sizes changes nothing. It stands beside seal and
+// not in one function with it, since it promises another thing of the tag.
 pub fn open(s: State, nonce: &[u8], ad: &[u8], text: &mut [u8], tag: &[u8]) -> Answer
     ensures { Leaves (opened s nonce.now ad.now text.old tag.now)
         result text.new tag.now }

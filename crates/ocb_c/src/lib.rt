@@ -1,5 +1,6 @@
 // OCB3 over AES and spill files for programs in C and Rust: functions over numbers and byte slices, which ocb_link exports. The state of a key lives in a
-// buffer that the caller lends; specs/Buffer.antt says how it lies there. include/ocb.h is the same for a reader of C.
+// buffer that the caller lends; specs/Buffer.antt says how it lies there. include/ocb.h is the same for a reader of C. Numbers, lengths and counts come back as C takes
+// them, and seal and open stand twice, because their names and their promises are exported.
 #![tactic(auto)]
 
 ghost use Rattle.std.specs.Prelude.{◌≡◌, length, MatchOption};
@@ -60,7 +61,7 @@ fn decode(buffer: &[u8]) -> Option<State>
     })
 }
 
-// Writes a state over a buffer.
+// Writes a state over a buffer. A function, as decode is, and not From or TryFrom: State and slices are other crates' types.
 fn encode(s: State, buffer: &mut [u8])
     requires { length buffer.old ≡ state_size }
     ensures { buffer.new ≡ encoded s }

@@ -94,7 +94,8 @@ pub fn key_dependent_variables(round_keys: RoundKeys, rounds: usize, m: usize) -
     }
 }
 
-// ---- Nonce-dependent variables
+// ---- Nonce-dependent variables. A nonce and a tag's length go together through three functions: a type for them would be made of just these two, with just
+// their clause, by each of the two callers.
 
 // Seven bits of the tag's length in bits mod 128, zeros, one 1 bit, and the nonce.
 fn nonce_block(nonce: &[u8], t: usize) -> Block

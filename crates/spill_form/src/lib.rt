@@ -197,7 +197,7 @@ fn tabled<'a>(form: Form, bytes: &'a [u8]) -> Result<File<'a>, Refusal>
     Ok(File { form, bytes })
 }
 
-// The file that the first `file` bytes of a buffer are, where it is accepted.
+// The file that the first `file` bytes of a buffer are, where it is accepted. A buffer and a length, as C has them: what stands behind the file is room to add.
 pub fn check<'a>(form: Form, buffer: &'a [u8], file: usize) -> Result<File<'a>, Refusal>
     requires { form.tag_in_row ≤ 16 }
     ensures number { outcome_number result ≡ file_number form buffer.now file }

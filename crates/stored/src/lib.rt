@@ -36,7 +36,8 @@ pub fn agrees(case: &[u8], stored: &[u8]) -> bool
     }
 }
 
-// The call is answered as it is stored, under a state in a buffer as crate ocb_c has it, whether set-up made it or not.
+// The call is answered as it is stored, under a state in a buffer as crate ocb_c has it, whether set-up made it or not. opens is a bool since specs/Stored.antt
+// says it as one (`under`).
 pub fn agrees_under(
     state: &[u8],
     opens: bool,
@@ -58,7 +59,7 @@ pub fn agrees_under(
     tells(stored, number, calls, text, tag)
 }
 
-// The stored bytes tell this number, count, length and output or buffer, and nothing else.
+// The stored bytes tell this number, count, length and output or buffer, and nothing else. Its form is another one than that of `tells`.
 fn tells_file(stored: &[u8], number: usize, calls: usize, size: usize, left: &[u8]) -> bool
     ensures { Decides result (TellsFile stored.now number calls size left.now) }
 {
