@@ -66,19 +66,12 @@ fn encode(s: State, buffer: &mut [u8])
     requires { length buffer.old ≡ state_size }
     ensures { buffer.new ≡ encoded s }
 {
-    let values = s.values;
-    let rounds = values.rounds as u64;
-    let star = values.star;
-    let dollar = values.dollar;
-    let m = values.m as u64;
-    let round_keys = s.round_keys;
-    let table = s.table;
-    block::copy_at(buffer, 0, &round_keys);
-    block::store_be64(&mut buffer[ROUNDS_AT..STAR_AT], rounds);
-    block::store(buffer, STAR_AT, star);
-    block::store(buffer, DOLLAR_AT, dollar);
-    block::store_be64(&mut buffer[M_AT..TABLE_AT], m);
-    block::copy_at(buffer, TABLE_AT, &table);
+    block::copy_at(buffer, 0, &s.round_keys);
+    block::store_be64(&mut buffer[ROUNDS_AT..STAR_AT], s.values.rounds as u64);
+    block::store(buffer, STAR_AT, s.values.star);
+    block::store(buffer, DOLLAR_AT, s.values.dollar);
+    block::store_be64(&mut buffer[M_AT..TABLE_AT], s.values.m as u64);
+    block::copy_at(buffer, TABLE_AT, &s.table);
 }
 
 // How many bytes the buffer of a state has.
