@@ -94,7 +94,8 @@ fn add_state(s: [[u8; 4]; 4], k: [[u8; 4]; 4]) -> [[u8; 4]; 4]
     ]
 }
 
-// The round key of round i: four words.
+// The round key of round i: four words. Here, in add_state and in substitute_all the four columns are spelled out: by map or from_fn the closures' own goals
+// stayed open. That w reaches so far stands in each clause, as a fact of w and i together.
 fn round_key(w: &[u8], i: usize) -> [[u8; 4]; 4]
     requires { 16 * i + 15 < length w.now }
     ensures { result ≡ round_key w.now i }

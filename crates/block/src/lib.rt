@@ -2,7 +2,7 @@
 // Where a function takes a place in a slice, its `requires` says how much of the slice has to lie there.
 #![tactic(auto)]
 
-ghost use Rattle.std.specs.Prelude.{◌≡◌, ◌++◌, ◌+◌, ◌/◌, ◌^◌, ◌≤◌, ◌<◌, length, get_or, take, drop};
+ghost use Rattle.std.specs.Prelude.{◌≡◌, ◌++◌, ◌+◌, ◌/◌, ◌^◌, ◌≤◌, ◌<◌, length, take, drop};
 ghost use Rattle.standards.specs.Strings.{◌xor◌, zeros, num, to_bytes};
 ghost use Rattle.standards.specs.Rfc7253 as rfc;
 ghost use Rattle.block.specs.Words.{le, le_bytes};

@@ -14,7 +14,7 @@ ghost use Rattle.cases.specs.Replies.{Lays, Left, result_of, Responds};
 use ocb::Answer;
 use table::Table;
 
-// The answer to a case, with its text and its tag at the front of two lent buffers, in so many bytes.
+// The answer to a case, with its text and its tag at the front of two lent buffers, in so many bytes: the buffers are the caller's, since there is no heap.
 #[derive(Clone, Copy)]
 pub struct Reply {
     pub number: usize,

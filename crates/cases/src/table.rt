@@ -3,7 +3,7 @@ ghost use Rattle.std.specs.Prelude.{◌≡◌, ◌+◌, ◌≤◌, ◌<◌, leng
 ghost use Rattle.cases.specs.Case.{word};
 ghost use Rattle.cases.specs.Places.{found};
 
-// Whether to open (a bool, as specs/Case.antt has it), m, and where each body behind the key begins. The key begins at 22, and the last body ends at end.
+// Whether to open (a bool, as specs/Case.antt has it), m, and (places, as specs/Places.antt has them) where each body behind the key begins. The key begins at 22, and the last body ends at end.
 #[derive(Clone, Copy)]
 pub struct Table {
     pub opens: bool,

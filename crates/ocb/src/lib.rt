@@ -70,7 +70,8 @@ pub fn set_up(key: &[u8], m: usize) -> SetUp
     SetUp { number: 0, state }
 }
 
-// Takes a text whose sizes are in range through the mode, either way, for a tag of so many bytes, and gives all sixteen bytes of its tag.
+// Takes a text whose sizes are in range through the mode, either way, for a tag of so many bytes, and gives all sixteen bytes of its tag. That the sizes are in
+// range stands in three clauses: it is a fact of a key and four parts that are lent apart, as C and RFC 7253 have them.
 fn through<W: Way>(k: &LentKey<'_>, nonce: &[u8], ad: &[u8], text: &mut [u8], tag: usize) -> Block
     requires { InRange k.now.m (length nonce.now) (length ad.now) (length text.old) tag }
     ensures { Through W.opens (key_of k.now) nonce.now ad.now tag text.old text.new result }

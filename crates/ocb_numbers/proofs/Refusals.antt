@@ -1,11 +1,11 @@
 -- The two lists of numbers: what an admitted size is known to be, and that nothing else is refused. Each test is one of a list's rules.
 -- Assumes nothing.
-use mathlib.Core.Path.{◌≡◌, refl, ap}
-use mathlib.Core.Bool.{Bool, true, false, not, ◌||◌}
+use mathlib.Core.Path.{◌≡◌, refl, sym, ap, ◌∙◌}
+use mathlib.Core.Bool.{Bool, cond, true, false, not, ◌||◌}
 use Prim.Native.Nat.{ℕ, ◌≤◌}
 use native.Mathlib.Omega.{arith}
 use borrow.Author.Tests.{ltb-false, not-false, le-ltb}
-use lib.Dec.{ltb, lit<, lit≤}
+use lib.Dec.{eqb, ltb, lit<, lit≤}
 use Rattle.sizes.specs.Sizes.{key_lengths, round_numbers, among, KeyLength, Rounds, m_most, nonce_least, nonce_most, tag_least, tag_most}
 use Rattle.ocb_numbers.specs.declared.Refusal.{Refusal}
 use Rattle.ocb_numbers.specs.declared.Refusal.TheVariants.{Key, State, Nonce, Tag, Text, Data, WrongTag}
@@ -32,7 +32,7 @@ fits m n h e = record { filled = h; short = ltb-false (limit m) n e }
 not_too_long : {m n : ℕ} → Fits m n → too_long m n ≡ false
 not_too_long {m} {n} f = le-ltb (limit m) n f.short
 
--- ---- a refusal has a number
+-- ---- a refusal has a number that is not 0
 
 pub numbered_from_1 : (r : Refusal) → number_of r ≡ 0 → ⊥
 numbered_from_1 Key e = omega arith
@@ -42,6 +42,22 @@ numbered_from_1 Tag e = omega arith
 numbered_from_1 Text e = omega arith
 numbered_from_1 Data e = omega arith
 numbered_from_1 WrongTag e = omega arith
+
+-- and no other refusal has it
+abbrev pub refusal_by : ℕ → Refusal
+refusal_by n = cond (eqb n 1) Key (cond (eqb n 2) State (cond (eqb n 3) Nonce (cond (eqb n 4) Tag (cond (eqb n 5) Text (cond (eqb n 6) Data WrongTag)))))
+
+by_number : (r : Refusal) → refusal_by (number_of r) ≡ r
+by_number Key = refl
+by_number State = refl
+by_number Nonce = refl
+by_number Tag = refl
+by_number Text = refl
+by_number Data = refl
+by_number WrongTag = refl
+
+pub number_single : (r s : Refusal) → number_of r ≡ number_of s → r ≡ s
+number_single r s e = sym (by_number r) ∙ ap refusal_by e ∙ by_number s
 
 -- ---- set_up
 

@@ -4,15 +4,13 @@ ghost use Rattle.standards.specs.Strings.{◌xor◌};
 ghost use Rattle.standards.specs.Rfc7253.{ntz, block_at, padded};
 ghost use Rattle.ocb_numbers.specs.Numbers.{InTable};
 
-use ocb_variables::LentKey;
-use sizes::Block;
+use sizes::{Block, Table};
 
 // Offset_i = Offset_{i-1} xor L_{ntz(i)}
-pub fn next_offset(k: &LentKey<'_>, i: usize, o: Block) -> Block
-    requires { InTable k.now.m i }
-    ensures { result ≡ o xor block_at k.now.table.now (ntz i) }
+pub fn next_offset(table: &Table, m: usize, i: usize, o: Block) -> Block
+    requires { InTable m i }
+    ensures { result ≡ o xor block_at table.now (ntz i) }
 {
-    let table = k.table;
     block::xor(o, block::load(table, block::ntz(i) * 16))
 }
 

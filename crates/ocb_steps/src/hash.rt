@@ -17,7 +17,7 @@ impl Run {
     {
         // Offset_i = Offset_{i-1} xor L_{ntz(i)}
         let done = self.done + 1;
-        let offset = blocks::next_offset(k, done, self.offset);
+        let offset = blocks::next_offset(k.table, k.m, done, self.offset);
         // Sum_i = Sum_{i-1} xor ENCIPHER(K, A_i xor Offset_i)
         let sum = block::xor(self.sum, k.cipher.encipher(block::xor(b, offset)));
         Run { done, offset, sum }

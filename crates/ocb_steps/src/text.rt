@@ -28,7 +28,7 @@ impl Run {
         let b = block::load(one, 0);
         // Offset_i = Offset_{i-1} xor L_{ntz(i)}
         let done = self.done + 1;
-        let offset = blocks::next_offset(k, done, self.offset);
+        let offset = blocks::next_offset(k.table, k.m, done, self.offset);
         let t = W::turn(k, offset, b);
         // Checksum_i = Checksum_{i-1} xor P_i
         let sum = block::xor(self.sum, W::plain(b, t));

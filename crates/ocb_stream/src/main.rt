@@ -14,8 +14,7 @@ fn filled(from: &mut impl Read, buffer: &mut [u8]) -> Result<bool> {
 }
 
 // Reads left bytes, or those that there are, and drops them, by way of a buffer. The loop counts what is left to read, which is no index.
-fn skip(from: &mut impl Read, left: usize, buffer: &mut [u8]) -> Result<()> {
-    let mut left = left;
+fn skip(from: &mut impl Read, mut left: usize, buffer: &mut [u8]) -> Result<()> {
     while left > 0 {
         let n = left.min(buffer.len());
         let got = from.read(&mut buffer[..n])?;

@@ -33,7 +33,7 @@ pub struct State {
     pub table: Table,
 }
 
-// The key that a state holds, lent to the walks: its cipher, its table of L_0 to L_m, L_* and L_$.
+// The key that a state holds, lent to the walks: its cipher, its table of L_0 to L_m, L_*, L_$, and m.
 #[derive(Clone, Copy)]
 pub struct LentKey<'a> {
     pub cipher: Cipher<'a>,
@@ -95,7 +95,7 @@ pub fn key_dependent_variables(round_keys: RoundKeys, rounds: usize, m: usize) -
 }
 
 // ---- Nonce-dependent variables. A nonce and a tag's length go together through three functions: a type for them would be made of just these two, with just
-// their clause, by each of the two callers.
+// their clause, by the one caller.
 
 // Seven bits of the tag's length in bits mod 128, zeros, one 1 bit, and the nonce.
 fn nonce_block(nonce: &[u8], t: usize) -> Block

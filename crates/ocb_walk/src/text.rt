@@ -10,7 +10,8 @@ use ocb_steps::way::Way;
 use ocb_variables::LentKey;
 use sizes::Block;
 
-// Two blocks at a time, and the one that may be left, from the first offset o on. A last part stays as it is.
+// Two blocks at a time, and the one that may be left, from the first offset o on. A last part stays as it is. The pairs are counted: after a loop over
+// chunks_exact_mut nothing is known of what the chunks became.
 pub fn walk<W: Way>(k: &LentKey<'_>, o: Block, s: &mut [u8]) -> Run
     requires { Fits k.now.m (length s.old) }
     ensures { Walked W.opens (key_of k.now) o s.old s.new result }

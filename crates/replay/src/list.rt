@@ -10,7 +10,7 @@ pub struct Tally {
     entries: u32,
     agreed: u32,
     wrong: Option<u32>,
-    whole: bool,
+    whole: bool, // of the list itself: no field depends on it
 }
 
 impl fmt::Display for Tally {

@@ -1,7 +1,7 @@
 // Adding a row to a spill file, in place. What each number leaves stands in spill_form/specs/Adding.antt, and what follows from it in proofs/Additions.antt.
 #![tactic(auto)]
 
-ghost use Rattle.std.specs.Prelude.{◌≡◌, cond, ◌≤◌, eqb, length};
+ghost use Rattle.std.specs.Prelude.{◌≡◌, cond, ◌≤◌, eqb};
 ghost use Rattle.ocb_numbers.specs.Numbers.{refusal};
 ghost use Rattle.spill_form.specs.File.{tags_in_bodies};
 ghost use Rattle.spill_form.specs.Adding.{nonce_in, add_number, adding};
@@ -11,44 +11,44 @@ ghost use Rattle.spill_add.specs.Adds.{Adds, addition_of};
 use ocb_variables::{KeyValues, State};
 use spill_form::{File, Form, MOST_BYTES, MOST_ROWS, Refusal};
 
-// Whether a row of the file s has this nonce.
-fn has_nonce(s: File<'_>, nonce: &[u8]) -> bool
-    ensures { result ≡ nonce_in s.entry.form s.entry.bytes.now nonce.now }
+// Whether a row of the file has this nonce.
+fn has_nonce(held: File<'_>, nonce: &[u8]) -> bool
+    ensures { result ≡ nonce_in held.entry.form held.entry.bytes.now nonce.now }
 {
-    for i in 0..s.count() {
-        if s.nonce(i) == nonce {
+    for i in 0..held.count() {
+        if held.nonce(i) == nonce {
             return true;
         }
     }
     false
 }
 
-// Whether a text of `text` bytes is added to the file s, in a buffer of `room` bytes.
+// Whether a text of `text` bytes is added to the file, in a buffer of `room` bytes.
 #[tactic(auto, unfolding(spill_form::specs::Adding::add_number))]
 fn refuse_add(
-    s: File<'_>,
+    held: File<'_>,
     nonce: &[u8],
     tenant: usize,
     text: usize,
     room: usize,
 ) -> Result<(), Refusal>
-    ensures { outcome_number result ≡ add_number s.entry.form s.entry.bytes.now nonce.now tenant text room }
+    ensures { outcome_number result ≡ add_number held.entry.form held.entry.bytes.now nonce.now tenant text room }
 {
     if tenant == 0 {
         return Err(Refusal::NoTenant);
     }
-    if has_nonce(s, nonce) {
+    if has_nonce(held, nonce) {
         return Err(Refusal::NonceUsed);
     }
-    if s.count() == MOST_ROWS {
+    if held.count() == MOST_ROWS {
         return Err(Refusal::Full);
     }
     // tested by itself, so that the sum below does not wrap
     if MOST_BYTES < text {
         return Err(Refusal::Full);
     }
-    let in_row = s.form.tag_in_row;
-    let size = s.bytes.len() + (24 + in_row) + (text + (16 - in_row));
+    let in_row = held.form.tag_in_row;
+    let size = held.bytes.len() + (24 + in_row) + (text + (16 - in_row));
     if MOST_BYTES < size || room < size {
         return Err(Refusal::Full);
     }
@@ -99,7 +99,7 @@ fn add_form(
     })
 }
 
-// Adds a row to the file that is the first `file` bytes of a buffer: a text, sealed for a tenant under a nonce of twelve bytes. A refusal changes nothing.
+// Adds a row to the file that is the first `file` bytes of a buffer, as C has it: a text, sealed for a tenant under a nonce of twelve bytes. A refusal changes nothing.
 pub fn add(
     s: State,
     buffer: &mut [u8],

@@ -206,9 +206,9 @@ pub fn check<'a>(form: Form, buffer: &'a [u8], file: usize) -> Result<File<'a>, 
     if buffer.len() < file || MOST_BYTES < file {
         return Err(Refusal::Table);
     }
-    let file = tabled(form, &buffer[..file])?;
-    if file.end()? < file.bytes.len() {
+    let tabled = tabled(form, &buffer[..file])?;
+    if tabled.end()? < tabled.bytes.len() {
         return Err(Refusal::Behind);
     }
-    Ok(file)
+    Ok(tabled)
 }

@@ -128,7 +128,7 @@ fn read_form(
     open_row(state, s, row, out)
 }
 
-// Reads a row of the file that is the first `file` bytes of a buffer, for the tenant who asks, into the front of the output.
+// Reads a row of the file that is the first `file` bytes of a buffer, as C has it, for the tenant who asks, into the front of the output.
 pub fn read(
     state: State,
     buffer: &[u8],

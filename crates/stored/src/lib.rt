@@ -59,7 +59,8 @@ pub fn agrees_under(
     tells(stored, number, calls, text, tag)
 }
 
-// The stored bytes tell this number, count, length and output or buffer, and nothing else. Its form is another one than that of `tells`.
+// The stored bytes tell this number, count, length and output or buffer, and nothing else. Its form is another one than that of `tells`,
+// and its length is two words, as TellsFile says it.
 fn tells_file(stored: &[u8], number: usize, calls: usize, size: usize, left: &[u8]) -> bool
     ensures { Decides result (TellsFile stored.now number calls size left.now) }
 {

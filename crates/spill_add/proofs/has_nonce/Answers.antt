@@ -25,14 +25,14 @@ loop-i-init c = refl
 
 pub returns-then-eq : goal.returns-then-eq
 returns-then-eq c =
-    let s = c.args.s in
+    let s = c.args.held in
     let N : List ℕ = c.args.nonce.now in
     let is = ap (λ a. same a N) (sym c.nonce.ensures) ∙ same_is c.nonce.result.now N ∙ sym c.eq.ensures ∙ c.if-eq.true in
     sym (any_at (λ i. same (nonce_of s.form s.bytes.now i) N) (count s.bytes.now) c.loop-i.i (omega (arith, c.count-i-end.ensures)) is)
 
 pub loop-i-preserved : goal.loop-i-preserved
 loop-i-preserved c =
-    let s = c.args.s in
+    let s = c.args.held in
     let N : List ℕ = c.args.nonce.now in
     let is = ap (λ a. same a N) (sym c.nonce.ensures) ∙ same_is c.nonce.result.now N ∙ sym c.eq.ensures ∙ c.if-eq.false in
     none_more (λ i. same (nonce_of s.form s.bytes.now i) N) c.loop-i.i c.loop-i.invariant is

@@ -5,4 +5,4 @@ use Rattle.spill_form.specs.File.{nonce_of, any_below}
 use Rattle.spill_add.proofs.has_nonce.Given as goal
 
 abbrev pub invariant-loop-i : goal.invariant-loop-i
-invariant-loop-i l = any_below (λ i. same (nonce_of l.s.form l.s.bytes.now i) l.nonce) l.i ≡ false
+invariant-loop-i l = any_below (λ i. same (nonce_of l.held.form l.held.bytes.now i) l.nonce) l.i ≡ false

@@ -10,7 +10,7 @@ use Rattle.ocb_steps.proofs.blocks.next_offset.Goals as goal
 
 pub load-requires : goal.load-requires
 load-requires c =
-    let long : length c.args.k.now.table.now ≡ table_bytes = search rules in
+    let long : length c.args.table.now ≡ table_bytes = search rules in
     omega (arith, long, place-within c.requires, c.ntz.ensures)
 
 pub returns : goal.returns
