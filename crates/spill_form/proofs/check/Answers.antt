@@ -19,7 +19,9 @@ returns-in_err-tabled-clause-number c =
 pub returns-in_err-end-clause-number : goal.returns-in_err-end-clause-number
 returns-in_err-end-clause-number c =
     let a = c.args in
-    let e : 11 ≡ file_number a.form a.buffer.now a.file = flawed_file a.form a.buffer.now a.file (omega arith) (omega arith) c.in_ok-tabled.ensures c.in_ok-tabled.tabled.table c.in_err-end.ensures.1 in
+    let t = c.in_ok-tabled in
+    let flawed = c.in_err-end.ensures.1 in
+    let e : 11 ≡ file_number a.form a.buffer.now a.file = flawed_file a.form a.buffer.now a.file (omega arith) (omega arith) t.ensures t.tabled.table flawed in
     search rules
 
 pub returns-then-branch-tabled-clause-number : goal.returns-then-branch-tabled-clause-number

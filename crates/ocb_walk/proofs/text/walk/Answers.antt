@@ -30,13 +30,18 @@ loop-i-preserved g c =
 
 pub pair-r-requires : goal.pair-r-requires
 pair-r-requires g c =
+    let text = c.args.s.now in
     let l = c.loop-i in
-    lent_blocks 2 (l.r.done + 1 + 1) (l.i * 2) (l.i * 32) c.args.s.now l.s c.requires l.invariant.long (omega arith) (omega arith) (omega (arith, run_done l.invariant.done)) (omega arith)
+    let done = run_done l.invariant.done in
+    lent_blocks 2 (l.r.done + 1 + 1) (l.i * 2) (l.i * 32) text l.s c.requires l.invariant.long (omega arith) (omega arith) (omega (arith, done)) (omega arith)
 
 pub one-r-requires : goal.one-r-requires
 one-r-requires g c =
+    let text = c.args.s.now in
     let l = c.loop-i in
-    lent_blocks 1 (l.r.done + 1) (l.i * 2) (length c.args.s.now / 32 * 32) c.args.s.now l.s c.requires l.invariant.long (omega arith) (omega arith) (omega (arith, run_done l.invariant.done)) (omega arith)
+    let done = run_done l.invariant.done in
+    let p : ℕ = length text / 32 * 32 in
+    lent_blocks 1 (l.r.done + 1) (l.i * 2) p text l.s c.requires l.invariant.long (omega arith) (omega arith) (omega (arith, done)) (omega arith)
 
 pub returns-then-e-s : goal.returns-then-e-s
 returns-then-e-s g c =
