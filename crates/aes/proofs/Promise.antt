@@ -8,8 +8,8 @@ use lib.ListN.{get_or}
 use Rattle.standards.specs.Strings.{Bytes, Block}
 use Rattle.standards.specs.Fips197.{State, at, from_block, to_block, cipher, inv_cipher, encipher, decipher}
 use Rattle.block.proofs.Literals.{places, tabulate_bytes}
-use Rattle.aes.specs.Cipher.{enc, dec}
-use Rattle.aes.specs.Cipher.Body.{enc_is, dec_is}
+use Rattle.aes.specs.Cipher.{enc, dec, EnciphersWith, DeciphersWith}
+use Rattle.aes.specs.Cipher.Body.{enc_is, dec_is, enciphers_sbox, deciphers_inv_sbox}
 use Rattle.aes_steps.proofs.StateLaws.{IsState, of_state}
 use Rattle.aes.proofs.CipherLaws.{cipher_state, inv_cipher_state, inv_cipher_cipher, cipher_inv_cipher}
 
@@ -50,3 +50,10 @@ unfolding encipher decipher
 enc_dec nr w b hw hb =
     enc_is nr w (dec nr w b) ∙ ap (encipher nr w) (dec_is nr w b)
     ∙ undone (inv_cipher w nr) (cipher w nr) (λ s h. inv_cipher_state w hw nr h) (λ s h. cipher_inv_cipher w hw nr h) b hb
+
+-- each direction has one table to work with
+pub enciphers_single : (s t : List ℕ) → EnciphersWith s → EnciphersWith t → s ≡ t
+enciphers_single s t hs ht = enciphers_sbox s hs ∙ sym (enciphers_sbox t ht)
+
+pub deciphers_single : (s t : List ℕ) → DeciphersWith s → DeciphersWith t → s ≡ t
+deciphers_single s t hs ht = deciphers_inv_sbox s hs ∙ sym (deciphers_inv_sbox t ht)
