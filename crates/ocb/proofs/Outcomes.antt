@@ -67,10 +67,10 @@ refused zero o S T h = absurd (h refl)
 refused (suc n) o S T h = record { number = refl; calls = refl; text_left = refl; tag_left = refl }
 
 -- what is left by number n, and what by none
-by_number : {n k : ℕ} (o : Outcome) (S T : List ℕ) → k ≡ n → (k ≡ 0 → ⊥) → Leaves (unless n (untouched S T) o) (record { number = k; calls = 0 }) S T
+pub by_number : {n k : ℕ} (o : Outcome) (S T : List ℕ) → k ≡ n → (k ≡ 0 → ⊥) → Leaves (unless n (untouched S T) o) (record { number = k; calls = 0 }) S T
 by_number {n} {k} o S T e h = subst (λ (i : ℕ). Leaves (unless i (untouched S T) o) (record { number = k; calls = 0 }) S T) e (refused k o S T h)
 
-by_none : {n k : ℕ} {o : Outcome} {r : Answer} {S' T' : List ℕ} (refused : ℕ → Outcome) → k ≡ n → k ≡ 0 → Leaves o r S' T' → Leaves (unless n refused o) r S' T'
+pub by_none : {n k : ℕ} {o : Outcome} {r : Answer} {S' T' : List ℕ} (refused : ℕ → Outcome) → k ≡ n → k ≡ 0 → Leaves o r S' T' → Leaves (unless n refused o) r S' T'
 by_none {o = o} {r} {S'} {T'} refused e z L = subst (λ (i : ℕ). Leaves (unless i refused o) r S' T') (sym z ∙ e) L
 
 module _ (s : State) (N A S T : List ℕ) where

@@ -110,6 +110,8 @@ pub fn seal(s: State, nonce: &[u8], ad: &[u8], text: &mut [u8], tag: &mut [u8]) 
         return refused.into();
     }
     let calls = ocb_numbers::calls(ad.len(), text.len());
+    // the state is copied here, to be lent, and not at the entry, so that a refusal copies nothing
+    let s = s;
     encrypt(&s.lend(), nonce, ad, text, tag);
     Answer { number: 0, calls }
 }
@@ -126,6 +128,8 @@ pub fn open(s: State, nonce: &[u8], ad: &[u8], text: &mut [u8], tag: &[u8]) -> A
         return refused.into();
     }
     let calls = ocb_numbers::calls(ad.len(), text.len());
+    // copied here, as seal does
+    let s = s;
     if decrypt(&s.lend(), nonce, ad, text, tag) {
         return Answer { number: 0, calls };
     }
