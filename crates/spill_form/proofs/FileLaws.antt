@@ -11,8 +11,9 @@ use lib.Dec.{eqb, ltb, lit<, lit≤}
 use lib.ListN.{length, take}
 use Rattle.ocb_numbers.proofs.RuleLaws.{Numbered, first-at, first-none, none_applies}
 use Rattle.spill_form.specs.File.{most_rows, most_bytes, least_body, count, row_at, tenant_of, place_of, length_of, running, no_table, flawed, any_below, content_rules, content_number, file_rules, file_number, ◌or_else◌}
-use Rattle.spill_form.specs.Accepted.{Tabled, Sound, Accepted, Within, Passed}
+use Rattle.spill_form.specs.Accepted.{Tabled, Sound, Accepted, Within, HasRow, Passed}
 use Rattle.spill_form.specs.declared.Form.{Form}
+use Rattle.spill_form.proofs.PlaceLaws.{row_within}
 
 -- ---- tests
 
@@ -20,7 +21,7 @@ pub or-false : (a b : Bool) → a || b ≡ false → (a ≡ false) × (b ≡ fal
 or-false true b e = absurd (let z : ◌≡◌ {A = ℕ} 0 1 = cc in omega arith)
 or-false false b e = (refl, e)
 
-or_right : (a b : Bool) → b ≡ true → a || b ≡ true
+pub or_right : (a b : Bool) → b ≡ true → a || b ≡ true
 or_right true b e = refl
 or_right false b e = e
 
@@ -86,6 +87,14 @@ module _ (f : Form) (S : List ℕ) (i : ℕ) where
   unfolding flawed
   unflawed s = simp (ne_eqb _ _ s.tenant, le-ltb _ _ s.least, eq-eqb _ _ s.place, le-ltb _ _ s.end)
 
+-- every row that is counted is there
+pub has_row : (f : Form) (S : List ℕ) (i : ℕ) → f.tag_in_row ≤ 16 → Tabled f S → i < count S → HasRow f S i
+has_row f S i small t h = record {
+  form = small;
+  few = omega (arith, t.few);
+  inside = omega (arith, row_within f i (count S) h, t.room);
+}
+
 -- ---- the loop over the rows
 
 pub passed_none : (f : Form) (S : List ℕ) {run : ℕ} → run ≡ row_at f (count S) → run ≤ length S → Passed f S 0 run
@@ -113,7 +122,7 @@ module _ (f : Form) (S : List ℕ) where
   number_10 e = sym (first-at 0 (content_rules f S) tt e)
 
   module _ (t : Tabled f S) where
-    number_11 : any_below (flawed f S) (count S) ≡ true → 11 ≡ content_number f S
+    pub number_11 : any_below (flawed f S) (count S) ≡ true → 11 ≡ content_number f S
     unfolding content_number
     number_11 e = sym (first-at 1 (content_rules f S) (has_table f S t, tt) e)
 
@@ -154,7 +163,7 @@ accepts f S a =
     sym (number_0 f S a.table (all-below (flawed f S) (count S) (λ i h. unflawed f S i (a.rows i h))) (omega (arith, a.ended)))
 
 module _ (f : Form) (B : List ℕ) (file : ℕ) where
-  fits : file ≤ length B → file ≤ most_bytes → content_number f (take file B) ≡ file_number f B file
+  pub fits : file ≤ length B → file ≤ most_bytes → content_number f (take file B) ≡ file_number f B file
   unfolding file_number content_number
   fits h k = sym (simp (le-ltb (length B) file h, le-ltb most_bytes file k))
 

@@ -28,6 +28,12 @@ pub record Within (f : Form) (B : List ℕ) (file : ℕ) : Type 0 where
   pub most : file ≤ most_bytes
   pub content : Accepted f (take file B)
 
+-- the first 24 bytes of row i stand in S
+pub record HasRow (f : Form) (S : List ℕ) (i : ℕ) : Type 0 where
+  pub form : f.tag_in_row ≤ 16
+  pub few : i ≤ most_rows
+  pub inside : row_at f i + 24 ≤ length S
+
 -- the rows before row i are without flaw, and the place behind their bodies is within the file
 pub record Passed (f : Form) (S : List ℕ) (i run : ℕ) : Type 0 where
   pub counted : i ≤ count S

@@ -3,7 +3,7 @@
 
 ghost use Rattle.std.specs.Prelude.{◌≡◌, true, ◌+◌, ◌^◌, ◌≤◌, ◌<◌, length, take, IfOk, MatchResult};
 ghost use Rattle.spill_form.specs.File.{most_bytes, tags_in_bodies, word_at, count, row_at, nonce_of, tenant_of, place_of, length_of, running, no_table, flawed, any_below, file_number};
-ghost use Rattle.spill_form.specs.Accepted.{Tabled, Passed};
+ghost use Rattle.spill_form.specs.Accepted.{Tabled, HasRow, Passed};
 ghost use Rattle.spill_form.specs.Numbers.{number_of, outcome_number};
 
 // The most rows that a file may have.
@@ -80,6 +80,16 @@ pub fn tags_in_bodies() -> Form
     Form { tag_in_row: 0 }
 }
 
+// ---- Where things stand, in any bytes
+
+// How many rows the file s says it has.
+pub fn count(s: &[u8]) -> usize
+    requires { 4 ≤ length s.now }
+    ensures { result ≡ count s.now }
+{
+    block::load_le32(s, 0)
+}
+
 // Where row i starts.
 pub fn row_at(f: Form, i: usize) -> usize
     requires { (f.tag_in_row ≤ 16) × (i ≤ most_bytes) }
@@ -87,6 +97,16 @@ pub fn row_at(f: Form, i: usize) -> usize
 {
     4 + (24 + f.tag_in_row) * i
 }
+
+// The number in row i of the file s that starts k bytes behind the row's start: 12 the tenant, 16 the body's place, 20 its length.
+pub fn field(f: Form, s: &[u8], i: usize, k: usize) -> usize
+    requires { (HasRow f s.now i) × (k ≤ 20) }
+    ensures { (result ≡ word_at s.now (row_at f i + k)) × (result < 2 ^ 32) }
+{
+    block::load_le32(s, row_at(f, i) + k)
+}
+
+// ---- A file
 
 // Bytes that start with a table, in which every row that is counted has its place.
 #[derive(Clone, Copy)]
@@ -103,7 +123,7 @@ impl<'a> File<'a> {
     pub fn count(self) -> usize
         ensures { result ≡ count self.entry.bytes.now }
     {
-        block::load_le32(self.bytes, 0)
+        count(self.bytes)
     }
 
     // The number in row i that starts k bytes behind the row's start.
@@ -111,7 +131,7 @@ impl<'a> File<'a> {
         requires { (i < count self.bytes.now) × (k ≤ 20) }
         ensures { (result ≡ word_at self.entry.bytes.now (row_at self.entry.form i + k)) × (result < 2 ^ 32) }
     {
-        block::load_le32(self.bytes, row_at(self.form, i) + k)
+        field(self.form, self.bytes, i, k)
     }
 
     // The nonce in row i.
@@ -126,7 +146,7 @@ impl<'a> File<'a> {
     // The number of its tenant.
     pub fn tenant(self, i: usize) -> usize
         requires { i < count self.bytes.now }
-        ensures { result ≡ tenant_of self.entry.form self.entry.bytes.now i }
+        ensures { (result ≡ tenant_of self.entry.form self.entry.bytes.now i) × (result < 2 ^ 32) }
     {
         self.word(i, 12)
     }
@@ -162,7 +182,9 @@ impl<'a> File<'a> {
             || self.bytes.len() < place + size
     }
 
-    // The place behind the bodies, where no row has a flaw. One pass.
+    // The place behind the bodies, where no row has a flaw. One pass. Out of line: inside a reading the loop has too few registers, and takes 22 instructions a
+    // row in place of 15.
+    #[inline(never)]
     fn end(self) -> Result<usize, Refusal>
         ensures { MatchResult result
             (Passed self.entry.form self.entry.bytes.now (count self.entry.bytes.now))
@@ -190,7 +212,7 @@ fn tabled<'a>(form: Form, bytes: &'a [u8]) -> Result<File<'a>, Refusal>
     if bytes.len() < 4 {
         return Err(Refusal::Table);
     }
-    let n = block::load_le32(bytes, 0);
+    let n = count(bytes);
     if MOST_ROWS < n || bytes.len() < row_at(form, n) {
         return Err(Refusal::Table);
     }
