@@ -93,7 +93,7 @@ module _ (s : State) (N : List ℕ) (tenant : ℕ) (P : List ℕ) where
 
 -- ---- adding as a whole
 
-not_added : (n : ℕ) {x : ℕ} (B : List ℕ) (file : ℕ) (done : Adding) → x ≡ n → (x ≡ 0 → ⊥)
+pub not_added : (n : ℕ) {x : ℕ} (B : List ℕ) (file : ℕ) (done : Adding) → x ≡ n → (x ≡ 0 → ⊥)
     → Adds (unless_add n B file done) (record { number = x; calls = 0; file = file }) B
 not_added zero B file done e h = absurd (h e)
 not_added (suc n) B file done e h = record { number = e; calls = refl; file = refl; buffer_left = refl }

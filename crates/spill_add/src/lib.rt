@@ -11,12 +11,17 @@ ghost use Rattle.spill_add.specs.Adds.{Adds, addition_of};
 use ocb_variables::{KeyValues, State};
 use spill_form::{File, Form, MOST_BYTES, MOST_ROWS, Refusal};
 
-// Whether a row of the file has this nonce.
+// Whether a row of the file has this nonce. Four bytes are compared as one number, and the whole nonces where these agree: `==` of slices calls a function
+// for each row in which they do.
 fn has_nonce(held: File<'_>, nonce: &[u8]) -> bool
     ensures { result ≡ nonce_in held.entry.form held.entry.bytes.now nonce.now }
 {
     for i in 0..held.count() {
-        if held.nonce(i) == nonce {
+        let row = held.nonce(i);
+        if nonce.len() == 12
+            && block::load_le32(row, 0) == block::load_le32(nonce, 0)
+            && nonce.starts_with(row)
+        {
             return true;
         }
     }

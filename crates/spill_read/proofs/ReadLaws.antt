@@ -68,7 +68,7 @@ module _ (f : Form) (S : List ℕ) (i : ℕ) (small : f.tag_in_row ≤ 16) (a : 
         body_end = s.end;
       }
 
-  row_asked : (s : State)
+  pub row_asked : (s : State)
       → asked s (entry f S i).nonce (entry f S i).ad (entry f S i).text (entry f S i).tag
       ≡ refusal s.values.m s.values.rounds 12 4 (text_length f S i) 16
   row_asked s =
@@ -132,7 +132,7 @@ module _ (f : Form) (S : List ℕ) (i : ℕ) (small : f.tag_in_row ≤ 16) (a : 
 
 -- ---- reading as a whole
 
-not_read : (n : ℕ) {x : ℕ} (out : List ℕ) (done : Reading) → x ≡ n → (x ≡ 0 → ⊥)
+pub not_read : (n : ℕ) {x : ℕ} (out : List ℕ) (done : Reading) → x ≡ n → (x ≡ 0 → ⊥)
     → Reads (unless_read n out done) (record { number = x; calls = 0; written = 0 }) out
 not_read zero out done e h = absurd (h e)
 not_read (suc n) out done e h = record { number = e; calls = refl; written = refl; out_left = refl }
