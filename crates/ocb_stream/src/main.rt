@@ -2,22 +2,31 @@
 // a length and what the test program writes. A stream that ends inside a case ends the answers.
 #![tactic(auto)]
 
-use std::io::{ErrorKind, Read, Result, Write};
+ghost use Rattle.std.specs.Io.{ReadsAtMost};
 
-// Fills a buffer, and says whether the stream had so many bytes.
-fn filled(from: &mut impl Read, buffer: &mut [u8]) -> Result<bool> {
-    match from.read_exact(buffer) {
-        Ok(()) => Ok(true),
-        Err(e) if e.kind() == ErrorKind::UnexpectedEof => Ok(false),
-        Err(e) => Err(e),
+use std::io::{Read, Result, Write};
+
+// Reads until buffer is full or the stream ends, and gives how many bytes it put at the front, which std's `read_exact` does not say. The loop counts bytes
+// that came, which is no index.
+fn read_full(from: &mut impl Read, buffer: &mut [u8]) -> Result<usize>
+    ensures { ReadsAtMost result buffer.new }
+{
+    let mut done = 0;
+    while done < buffer.len() {
+        let n = from.read(&mut buffer[done..])?;
+        if n == 0 {
+            break;
+        }
+        done += n;
     }
+    Ok(done)
 }
 
-// Reads left bytes, or those that there are, and drops them, by way of a buffer. The loop counts what is left to read, which is no index.
+// Reads left bytes and drops them, by way of a buffer. An end behind some bytes is asked once more, since a terminal's input may go on behind it.
 fn skip(from: &mut impl Read, mut left: usize, buffer: &mut [u8]) -> Result<()> {
     while left > 0 {
         let n = left.min(buffer.len());
-        let got = from.read(&mut buffer[..n])?;
+        let got = read_full(from, &mut buffer[..n])?;
         if got == 0 {
             break;
         }
@@ -34,12 +43,12 @@ fn answer_next(
     out: &mut [u8],
 ) -> Result<bool> {
     let mut head = [0u8; 4];
-    if !filled(from, &mut head)? {
+    if read_full(from, &mut head)? < head.len() {
         return Ok(false);
     }
     let length = u32::from_le_bytes(head) as usize;
     let n = length.min(case.len());
-    if !filled(from, &mut case[..n])? {
+    if read_full(from, &mut case[..n])? < n {
         return Ok(false);
     }
     let k = cases::respond(&case[..n], out);
