@@ -43,22 +43,24 @@ fn seal_all(s: State, tag: &mut [u8], results: &mut impl Write) -> io::Result<()
 
 // Runs the whole test with a key as long as the one lent, which is zero, and tags as long as the place lent, of at most 16 bytes. Leaves there the tag
 // of the last seal, which has no text.
-pub fn run(key: &mut [u8], tag: &mut [u8]) -> io::Result<()> {
+pub fn run(key: &mut [u8], tag: &mut [u8]) {
     let t = tag.len();
     if 16 < t {
-        return Ok(());
+        return;
     }
     let Some(last) = key.last_mut() else {
-        return Ok(());
+        return;
     };
     *last = (8 * t) as u8;
     let s = ocb::set_up(key, 11).state;
     let mut results = [0u8; 22400];
     let mut written = Cursor::new(&mut results[..]);
-    seal_all(s, tag, &mut written)?;
+    // 22,400 bytes are what tags of 16 bytes need, so no write fails
+    let Ok(()) = seal_all(s, tag, &mut written) else {
+        return;
+    };
     let n = written.position() as usize;
     if let Some(results) = results.get(..n) {
         ocb::seal(s, &nonce(385), results, &mut [], tag);
     }
-    Ok(())
 }

@@ -11,7 +11,7 @@ use std::io;
 
 // Runs the iterated test with tags as long as the place lent, and prints the tag that it ends in.
 fn iterate(rt: &impl Print, key: &mut [u8], tag: &mut [u8]) -> io::Result<()> {
-    iterated::run(key, tag)?;
+    iterated::run(key, tag);
     println!(rt;
         "RFC 7253, iterated test, key of {} bytes, tag of {} bytes: {}",
         key.len(),

@@ -56,11 +56,11 @@ fn frame<'a>(from: &mut impl Read, buffer: &'a mut [u8]) -> Result<&'a mut [u8],
     Ok(front)
 }
 
-// Runs the next entry of a list of cases, and says whether it agrees.
+// Runs the next entry of a list of cases, and says whether it agrees. Here and below the buffers stand first: one that stands behind a `?` is zeroed twice.
 fn next_case<R: Read>(from: &mut R) -> Result<bool, Cut> {
     let mut case = [0u8; 65536];
-    let case = frame(from, &mut case)?;
     let mut answer = [0u8; 65536];
+    let case = frame(from, &mut case)?;
     let answer = frame(from, &mut answer)?;
     Ok(stored::agrees(case, answer))
 }
@@ -68,18 +68,18 @@ fn next_case<R: Read>(from: &mut R) -> Result<bool, Cut> {
 // Runs the next entry of a list of calls under states.
 fn next_call<R: Read>(from: &mut R) -> Result<bool, Cut> {
     let mut way = [0u8; 1];
-    frame(from, &mut way)?;
     let mut state = [0u8; 728];
-    let state = frame(from, &mut state)?;
     let mut nonce = [0u8; 64];
-    let nonce = frame(from, &mut nonce)?;
     let mut data = [0u8; 8192];
-    let data = frame(from, &mut data)?;
     let mut text = [0u8; 8192];
-    let text = frame(from, &mut text)?;
     let mut tag = [0u8; 64];
-    let tag = frame(from, &mut tag)?;
     let mut answer = [0u8; 16384];
+    frame(from, &mut way)?;
+    let state = frame(from, &mut state)?;
+    let nonce = frame(from, &mut nonce)?;
+    let data = frame(from, &mut data)?;
+    let text = frame(from, &mut text)?;
+    let tag = frame(from, &mut tag)?;
     let answer = frame(from, &mut answer)?;
     Ok(stored::agrees_under(state, way[0] == 1, nonce, data, text, tag, answer))
 }
@@ -87,22 +87,22 @@ fn next_call<R: Read>(from: &mut R) -> Result<bool, Cut> {
 // Runs the next entry of a list of calls on spill files.
 fn next_file<R: Read>(from: &mut R) -> Result<bool, Cut> {
     let mut way = [0u8; 1];
-    frame(from, &mut way)?;
     let mut state = [0u8; 728];
-    let state = frame(from, &mut state)?;
     let mut buffer = [0u8; FILE_ROOM];
-    let buffer = frame(from, &mut buffer)?;
     let mut file = [0u8; 8];
-    frame(from, &mut file)?;
     let mut row = [0u8; 8];
-    frame(from, &mut row)?;
     let mut tenant = [0u8; 4];
-    frame(from, &mut tenant)?;
     let mut nonce = [0u8; 64];
-    let nonce = frame(from, &mut nonce)?;
     let mut text = [0u8; FILE_ROOM];
-    let text = frame(from, &mut text)?;
     let mut answer = [0u8; FILE_ROOM];
+    frame(from, &mut way)?;
+    let state = frame(from, &mut state)?;
+    let buffer = frame(from, &mut buffer)?;
+    frame(from, &mut file)?;
+    frame(from, &mut row)?;
+    frame(from, &mut tenant)?;
+    let nonce = frame(from, &mut nonce)?;
+    let text = frame(from, &mut text)?;
     let answer = frame(from, &mut answer)?;
     let file = usize::from_le_bytes(file);
     let row = usize::from_le_bytes(row);
@@ -119,7 +119,8 @@ fn ended(from: &mut impl Read) -> bool {
     from.read_exact(&mut byte).is_err()
 }
 
-// Runs the entries that follow the mark of a list, each by next.
+// Runs the entries that follow the mark of a list, each by next. Out of line: in one function the buffers of two kinds of entries would take stack together.
+#[inline(never)]
 fn run_entries<R: Read, F: Fn(&mut R) -> Result<bool, Cut>>(from: &mut R, next: F) -> Tally
     requires { F.IsAlwaysCallable next }
 {

@@ -7,13 +7,15 @@ use std::fs::File;
 use std::io;
 use std::rt::Files;
 
+// The name is written before the list is opened, so that a run that is stopped has named the list it stopped at.
 fn replay(rt: &(impl Files + Print), name: &str) -> io::Result<()> {
+    print!(rt; "{name}")?;
     let Ok(mut file) = File::open(rt, name) else {
-        return println!(rt; "{name}: cannot be opened");
+        return println!(rt; ": cannot be opened");
     };
     match list::run(&mut file) {
-        Some(tally) => println!(rt; "{name}: {tally}"),
-        None => println!(rt; "{name}: does not start as a list does"),
+        Some(tally) => println!(rt; ": {tally}"),
+        None => println!(rt; ": does not start as a list does"),
     }
 }
 
